@@ -1,3 +1,5 @@
 pub mod Held
 pub mod Index
+pub mod Meaning
 pub mod Mark
+pub mod File

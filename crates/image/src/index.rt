@@ -5,7 +5,7 @@ ghost use lib.ListN.{length, take, drop};
 ghost use denote.Ref.{now as at};
 ghost use Rattle.std.specs.declared.option.Option.the-variants.{None as none};
 ghost use Rattle.image.specs.Held.{held};
-ghost use Rattle.image.specs.Index.{part as partOf, featuresOf, sectionAt, Put};
+ghost use Rattle.image.specs.Index.{part as partOf, featuresOf, sectionIn, Put};
 use crate::store::Store;
 use wire::order::ByteOrder;
 
@@ -42,7 +42,7 @@ impl<'a> Indexed<'a> {
     pub(crate) fn empty(image: &'a [u8], order: ByteOrder) -> Indexed<'a>
         ensures image { λ r. ⌜ now (r .image) ≡ now (image .entry) ⌝ }
         ensures order { λ r. ⌜ r .order ≡ order ⌝ }
-        ensures bare { λ r. ⌜ ((n : ℕ) → sectionAt r n ≡ none) ⌝ }
+        ensures bare { λ r. ⌜ ((n : ℕ) → sectionIn r n ≡ none) ⌝ }
     {
         Indexed {
             image,
