@@ -3,3 +3,7 @@ pub mod Index
 pub mod Meaning
 pub mod Mark
 pub mod File
+pub mod Run
+pub mod Pipe
+pub mod Head
+pub mod Kinds
