@@ -7,3 +7,4 @@ pub mod Run
 pub mod Pipe
 pub mod Head
 pub mod Kinds
+pub mod Ask

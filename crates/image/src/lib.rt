@@ -1,4 +1,5 @@
 // Section stores over the bytes of an image: perf.data files, recordings through a pipe, and heads.
+pub mod ask;
 mod at;
 pub mod file;
 pub mod head;
