@@ -5,3 +5,5 @@ pub mod Walks
 pub mod Runs
 pub mod Pipes
 pub mod Heads
+pub mod Laid
+pub mod Lawful

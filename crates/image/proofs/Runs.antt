@@ -40,7 +40,7 @@ module _ (front : Reader) where
       cond-true _ _ _ (lt-ltb 0 (suc k) (omega arith)) ∙ (ap (λ j. passed front low j total bs) e ∙ passed-is low k total bs)
 
   -- the entry at the front, and then the entries of what follows it
-  run-entry : (low total : ℕ) (s : List ℕ) (f : Front) → Sized s f → front low s ≡ Some f → run front low total s ≡ entry (f .feature) (take (f .size - f .skip) (drop (f .skip) s)) (run front (after low (f .feature)) total (drop (f .size) s))
+  pub run-entry : (low total : ℕ) (s : List ℕ) (f : Front) → Sized s f → front low s ≡ Some f → run front low total s ≡ entry (f .feature) (take (f .size - f .skip) (drop (f .skip) s)) (run front (after low (f .feature)) total (drop (f .size) s))
   unfolding passed
   run-entry low total [] f z e = absurd (omega (arith, z .some, z .within))
   run-entry low total (b ∷ bs) f z e =
@@ -48,12 +48,12 @@ module _ (front : Reader) where
       let next : ℕ = after low (f .feature) in
       rw e (ap (entry (f .feature) (take (f .size - f .skip) (drop (f .skip) (b ∷ bs)))) (passed-is next (f .size - 1) total bs ∙ ap (λ i. run front next total (drop i (b ∷ bs))) k))
 
-  run-broken : (low total : ℕ) (s : List ℕ) → 0 < length s → front low s ≡ None → run front low total s ≡ broken (total - length s)
+  pub run-broken : (low total : ℕ) (s : List ℕ) → 0 < length s → front low s ≡ None → run front low total s ≡ broken (total - length s)
   unfolding passed
   run-broken low total [] l e = absurd (omega arith)
   run-broken low total (b ∷ bs) l e = rw e refl
 
-  run-done : (low total : ℕ) (s : List ℕ) → length s ≤ 0 → run front low total s ≡ done
+  pub run-done : (low total : ℕ) (s : List ℕ) → length s ≤ 0 → run front low total s ≡ done
   unfolding passed
   run-done low total [] l = refl
   run-done low total (b ∷ bs) l = absurd (omega arith)

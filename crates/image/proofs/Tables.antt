@@ -124,9 +124,9 @@ module _ {o : ByteOrder} {image : List ℕ} {n at : ℕ} {was : Indexed} (t : Ta
       place = omega (arith, t .place, below-unset o image n h);
       inside = outside-not o image n (t .inside) (ap (λ b. b && ltb (length image) (sectionStart o image n + sectionLen o image n)) h);
       has = λ m a b. ⊎-elim
-      (λ (k : m < n). t .has m k b)
-      (λ (k : n ≤ m). let e : m ≡ n = omega arith in t .bare m k ∙ sym (section-unset o image m (ap (isSet o image) e ∙ h)))
-      (cases-lt m n);
+          (λ (k : m < n). t .has m k b)
+          (λ (k : n ≤ m). let e : m ≡ n = omega arith in t .bare m k ∙ sym (section-unset o image m (ap (isSet o image) e ∙ h)))
+          (cases-lt m n);
       bare = λ m a. t .bare m (omega arith);
     }
 
@@ -171,11 +171,11 @@ module _ {o : ByteOrder} {image : List ℕ} {n at : ℕ} {was : Indexed} (t : Ta
             place = omega (arith, t .place, below-set o image n h);
             inside = outside-not o image n (t .inside) (outside-is false (q .0));
             has = λ m a b. ⊎-elim
-            (λ (k : m < n). p .stands m b ∙ (cond-false _ _ _ (ne-eqb n m (λ (z : n ≡ m). omega arith)) ∙ t .has m k b))
-            (λ (k : n ≤ m). let z : n ≡ m = omega arith in p .stands m b ∙ (cond-true _ _ _ (eq-eqb n m z) ∙ (bytes ∙ ap (fileSection o image) z)))
-            (cases-lt m n);
+                (λ (k : m < n). p .stands m b ∙ (cond-false _ _ _ (ne-eqb n m (λ (z : n ≡ m). omega arith)) ∙ t .has m k b))
+                (λ (k : n ≤ m). let z : n ≡ m = omega arith in p .stands m b ∙ (cond-true _ _ _ (eq-eqb n m z) ∙ (bytes ∙ ap (fileSection o image) z)))
+                (cases-lt m n);
             bare = λ m a. ⊎-elim
-            (λ (k : m < 256). p .stands m (omega arith) ∙ (cond-false _ _ _ (ne-eqb n m (λ (z : n ≡ m). omega arith)) ∙ t .bare m (omega arith)))
-            (λ (k : 256 ≤ m). indexed-low _ _ m k)
-            (cases-lt m 256);
+                (λ (k : m < 256). p .stands m (omega arith) ∙ (cond-false _ _ _ (ne-eqb n m (λ (z : n ≡ m). omega arith)) ∙ t .bare m (omega arith)))
+                (λ (k : 256 ≤ m). indexed-low _ _ m k)
+                (cases-lt m 256);
           }

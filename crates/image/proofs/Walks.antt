@@ -40,8 +40,8 @@ pub filling-put : {whole more : Walk} {was is : Indexed} {number : ℕ} {put byt
 filling-put {more} {was} {number} {bytes} p e f = record {
   fault = f .fault;
   stands = λ n h.
-  f .stands n h ∙ (or-else (lastOf n more) (eqb number n) bytes (sectionIn was n)
-  ∙ ap (orElse (lastOf n more)) (sym (p .stands n h ∙ ap (λ x. cond (eqb number n) (Some x) (sectionIn was n)) e)));
+      f .stands n h ∙ (or-else (lastOf n more) (eqb number n) bytes (sectionIn was n)
+      ∙ ap (orElse (lastOf n more)) (sym (p .stands n h ∙ ap (λ x. cond (eqb number n) (Some x) (sectionIn was n)) e)));
 }
 
 -- an entry with no feature

@@ -5,16 +5,17 @@ ghost use Prim.Native.Nat.{_≤_};
 ghost use lib.ListN.{length};
 ghost use Rattle.wire.specs.declared.order.ByteOrder.the-variants.{Little as LittleEnd};
 ghost use Rattle.image.specs.Head.{isCarried, headEntry, headFront, headMarked, headImage};
+ghost use Rattle.image.specs.Laid.{HeadLaid};
 ghost use Rattle.image.specs.Index.{featuresOf, sectionIn};
 ghost use Rattle.image.specs.Run.{runFrom, walked};
 ghost use Rattle.image.specs.Meaning.{opened};
-use crate::index::Indexed;
-use crate::index::IndexedStore;
-use wire::refusal::Refusal;
-use crate::store::Store;
-use wire::order::ByteOrder;
 use crate::at::u16_at;
 use crate::at::u32_at;
+use crate::index::Indexed;
+use crate::index::IndexedStore;
+use crate::store::Store;
+use wire::order::ByteOrder;
+use wire::refusal::Refusal;
 
 // The features that a head carries.
 fn is_carried(n: u16) -> bool
@@ -86,6 +87,13 @@ pub struct HeadImage<'a> {
 
 impl<'a> HeadImage<'a> {
     pub fn open(image: &'a [u8]) -> Result<HeadImage<'a>, Refusal>
+        ensures means { λ r. ⌜ opened (λ s. s .index .order) (λ s. sectionIn (s .index)) r ≡ headImage (now (image .entry)) ⌝ }
+        ensures laid { λ r. ⌜ HeadLaid (now (image .entry)) (opened (λ s. s .index .order) (λ s. sectionIn (s .index)) r) ⌝ }
+    {
+        Self::read(image)
+    }
+
+    fn read(image: &'a [u8]) -> Result<HeadImage<'a>, Refusal>
         ensures { λ r. ⌜ opened (λ s. s .index .order) (λ s. sectionIn (s .index)) r ≡ headImage (now (image .entry)) ⌝ }
     {
         if image.len() > 16_777_216 {

@@ -3,19 +3,20 @@
 ghost use mathlib.Core.Path.{_≡_};
 ghost use Prim.Native.Nat.{_≤_};
 ghost use lib.ListN.{length};
+ghost use Rattle.image.specs.Laid.{PipeLaid};
 ghost use Rattle.image.specs.Index.{featuresOf, sectionIn};
 ghost use Rattle.image.specs.Pipe.{header as headerOf, pipeFront, pipeImage};
 ghost use Rattle.image.specs.Run.{runFrom, walked};
 ghost use Rattle.image.specs.Meaning.{opened};
-use crate::index::Indexed;
-use crate::index::IndexedStore;
-use crate::mark::mark_order;
-use wire::refusal::Refusal;
-use crate::store::Store;
-use wire::order::ByteOrder;
 use crate::at::u16_at;
 use crate::at::u32_at;
 use crate::at::u64_at;
+use crate::index::Indexed;
+use crate::index::IndexedStore;
+use crate::mark::mark_order;
+use crate::store::Store;
+use wire::order::ByteOrder;
+use wire::refusal::Refusal;
 
 // A record's size, and the feature that it carries, if any.
 #[derive(Clone, Copy)]
@@ -82,6 +83,13 @@ pub struct PipeImage<'a> {
 
 impl<'a> PipeImage<'a> {
     pub fn open(image: &'a [u8]) -> Result<PipeImage<'a>, Refusal>
+        ensures means { λ r. ⌜ opened (λ s. s .index .order) (λ s. sectionIn (s .index)) r ≡ pipeImage (now (image .entry)) ⌝ }
+        ensures laid { λ r. ⌜ PipeLaid (now (image .entry)) (opened (λ s. s .index .order) (λ s. sectionIn (s .index)) r) ⌝ }
+    {
+        Self::read(image)
+    }
+
+    fn read(image: &'a [u8]) -> Result<PipeImage<'a>, Refusal>
         ensures { λ r. ⌜ opened (λ s. s .index .order) (λ s. sectionIn (s .index)) r ≡ pipeImage (now (image .entry)) ⌝ }
     {
         if image.len() > 16_777_216 {
