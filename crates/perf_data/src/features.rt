@@ -8,40 +8,75 @@ pub struct Feature(pub u32);
 
 impl Feature {
     pub const TRACING_DATA: Feature = Feature(1);
+
     pub const BUILD_ID: Feature = Feature(2);
+
     pub const HOSTNAME: Feature = Feature(3);
+
     pub const OSRELEASE: Feature = Feature(4);
+
     pub const VERSION: Feature = Feature(5);
+
     pub const ARCH: Feature = Feature(6);
+
     pub const NRCPUS: Feature = Feature(7);
+
     pub const CPUDESC: Feature = Feature(8);
+
     pub const CPUID: Feature = Feature(9);
+
     pub const TOTAL_MEM: Feature = Feature(10);
+
     pub const CMDLINE: Feature = Feature(11);
+
     pub const EVENT_DESC: Feature = Feature(12);
+
     pub const CPU_TOPOLOGY: Feature = Feature(13);
+
     pub const NUMA_TOPOLOGY: Feature = Feature(14);
+
     pub const BRANCH_STACK: Feature = Feature(15);
+
     pub const PMU_MAPPINGS: Feature = Feature(16);
+
     pub const GROUP_DESC: Feature = Feature(17);
+
     pub const AUXTRACE: Feature = Feature(18);
+
     pub const STAT: Feature = Feature(19);
+
     pub const CACHE: Feature = Feature(20);
+
     pub const SAMPLE_TIME: Feature = Feature(21);
+
     pub const MEM_TOPOLOGY: Feature = Feature(22);
+
     pub const CLOCKID: Feature = Feature(23);
+
     pub const DIR_FORMAT: Feature = Feature(24);
+
     pub const BPF_PROG_INFO: Feature = Feature(25);
+
     pub const BPF_BTF: Feature = Feature(26);
+
     pub const COMPRESSED: Feature = Feature(27);
+
     pub const CPU_PMU_CAPS: Feature = Feature(28);
+
     pub const CLOCK_DATA: Feature = Feature(29);
+
     pub const HYBRID_TOPOLOGY: Feature = Feature(30);
+
     pub const PMU_CAPS: Feature = Feature(31);
+
     pub const SIMPLEPERF_FILE: Feature = Feature(128);
+
     pub const SIMPLEPERF_META_INFO: Feature = Feature(129);
+
     pub const SIMPLEPERF_DEBUG_UNWIND: Feature = Feature(130);
+
     pub const SIMPLEPERF_DEBUG_UNWIND_FILE: Feature = Feature(131);
+
     pub const SIMPLEPERF_FILE2: Feature = Feature(132);
 
     // The name that perf or simpleperf has for the feature, if it has one.
