@@ -26,8 +26,14 @@ impl TextFault {
         let bytes_at = at.saturating_add(4);
         match self {
             TextFault::ShortLength => Refusal::NoTextLength { feature, at },
-            TextFault::PastEnd => Refusal::TextOutside { feature, at: bytes_at },
-            TextFault::IllFormed => Refusal::IllFormedText { feature, at: bytes_at },
+            TextFault::PastEnd => Refusal::TextOutside {
+                feature,
+                at: bytes_at,
+            },
+            TextFault::IllFormed => Refusal::IllFormedText {
+                feature,
+                at: bytes_at,
+            },
         }
     }
 }
