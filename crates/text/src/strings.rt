@@ -61,12 +61,12 @@ pub fn read_string<'s>(
     let (Some(len), [_, _, _, _, rest @ ..]) = (order.u32(section), section) else {
         return Err(TextFault::ShortLength);
     };
-    let Some((field, rest)) = rest.split_at_checked(len as usize) else {
+    let Some((field, after)) = rest.split_at_checked(len as usize) else {
         return Err(TextFault::PastEnd);
     };
     let text = before_nul(field);
     if !well_formed(text) {
         return Err(TextFault::IllFormed);
     }
-    Ok((unsafe { from_utf8_unchecked(text) }, rest))
+    Ok((unsafe { from_utf8_unchecked(text) }, after))
 }
