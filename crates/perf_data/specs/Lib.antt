@@ -1,1 +1,4 @@
 pub mod Features
+pub mod Questions
+pub mod Texts
+pub mod Lists

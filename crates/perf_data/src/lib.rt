@@ -1,2 +1,4 @@
-// What is known of perf.data files beyond their layout. The names of its modules are those of linux-perf-data.
+// What the feature sections of perf.data files say. The names of the modules are those of linux-perf-data.
 pub mod features;
+pub mod perf_file;
+pub mod string_list;
