@@ -19,11 +19,17 @@ pub struct StringList<'a> {
     rest: &'a [u8],
 }
 
-impl<'a> StringList<'a> {
-    // The next text; none after the last.
-    pub fn next(&mut self) -> Option<&'a str>
-        ensures { λ r. ⌜ Gives (toCome (now (self .entry))) r (toCome (now (self .exit))) ⌝ }
-    {
+// The texts, one after the other.
+pub impl<'a> Iterator for StringList<'a> as StringListIterator {
+    type Item = &'a str;
+
+    ghost steps = { λ s r t. Gives (toCome s) r (toCome t) };
+
+    ghost ends = { λ _. Unit {0} };
+
+    ghost left = { λ s. s .left };
+
+    fn next(&mut self) -> Option<&'a str> {
         if self.left == 0 {
             return None;
         }
