@@ -2,7 +2,7 @@
 use mathlib.Core.Path.{_≡_, refl}
 use mathlib.Core.List.{[], _∷_}
 use Rattle.std.specs.declared.result.Result.the-variants.{Ok, Err}
-use Rattle.wire.specs.declared.order.ByteOrder.the-variants.{Little, Big}
+use Rattle.wire.specs.declared.order.ByteOrder.the-variants.{Little}
 use Rattle.wire.specs.Numbers.{numberOf}
 use Rattle.text.specs.declared.strings.TextFault.the-variants.{IllFormed}
 use Rattle.text.specs.Pieces.{longest, startsOne, piecesPast, shown}
