@@ -1,0 +1,5 @@
+pub mod Clamped
+pub mod Filling
+pub mod Shifts
+pub mod Puts
+pub mod Halves
