@@ -53,14 +53,14 @@ module _ {K R : Type 0} (o : Order K) (key : R → K) where
         (sym e))
 
     -- the row before i is less, and the row i is greater, where there are such rows
-    pub place-between : i ≤ length rows → (0 < i → by (getD rows (i - 1) d) r ≡ Less) → (i < length rows → by (getD rows i d) r ≡ Greater) → Err i ≡ placed o key rows r
+    pub place-between : i ≤ length rows → (0 < i → Less ≡ by (getD rows (i - 1) d) r) → (i < length rows → Greater ≡ by (getD rows i d) r) → Err i ≡ placed o key rows r
     place-between within below above =
         sym (placed-err rows r i d within
         (λ k h.
         let some : 0 < i = omega arith in
         let last : i - 1 < length rows = omega arith in
         ⊎-elim
-        (λ (l : k < i - 1). o .trans (key (getD rows k d)) (key (getD rows (i - 1) d)) (key r) (rising-at rows k (i - 1) d up l last) (below some))
-        (λ (l : i - 1 ≤ k). let q : k ≡ i - 1 = omega arith in ap (λ j. by (getD rows j d) r) q ∙ below some)
+        (λ (l : k < i - 1). o .trans (key (getD rows k d)) (key (getD rows (i - 1) d)) (key r) (rising-at rows k (i - 1) d up l last) (sym (below some)))
+        (λ (l : i - 1 ≤ k). let q : k ≡ i - 1 = omega arith in ap (λ j. by (getD rows j d) r) q ∙ sym (below some))
         (cases-lt k (i - 1)))
-        above)
+        (λ h. sym (above h)))

@@ -3,3 +3,5 @@ pub mod Filling
 pub mod Shifts
 pub mod Puts
 pub mod Halves
+pub mod Stand
+pub mod More

@@ -22,6 +22,10 @@ fits n table = cond (leb (length table) n) (Some (length table)) None
 abbrev pub laid : ℕ → List Row → List Row
 laid n table = cond (leb (length table) n) (table ++ blanks (n - length table)) (blanks n)
 
+abbrev pub usedOf : Fill → Option ℕ
+usedOf (Used n) = Some n
+usedOf Over = None
+
 -- Rows hold a table as far as it fits, and a fill says whether it does.
 abbrev pub Holds : List Row → Fill → List Row → Type 0
 Holds table (Used n) rows = (n ≡ length table) × (n ≤ length rows) × (rows ≡ table ++ blanks (length rows - n))

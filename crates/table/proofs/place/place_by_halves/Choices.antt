@@ -11,8 +11,8 @@ Inv-loop-low g l =
     let m = g .K·Kind in
     let key = m .key (l .kind) in
     (l .low ≤ l .high) × (l .high ≤ length (l .rows))
-    × (0 < l .low → m .order .cmp (key (getD (l .rows) (l .low - 1) blank)) (key (l .row)) ≡ Less)
-    × (l .high < length (l .rows) → m .order .cmp (key (getD (l .rows) (l .high) blank)) (key (l .row)) ≡ Greater)
+    × (0 < l .low → Less ≡ m .order .cmp (key (getD (l .rows) (l .low - 1) blank)) (key (l .row)))
+    × (l .high < length (l .rows) → Greater ≡ m .order .cmp (key (getD (l .rows) (l .high) blank)) (key (l .row)))
 
 abbrev pub μ-loop-low : given.MeasureT-loop-low
 μ-loop-low g l = l .high - l .low

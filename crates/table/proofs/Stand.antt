@@ -1,7 +1,10 @@
--- The theorems of specs/Theorems.
+-- What holds of tables: the theorems of specs/Theorems.
 use mathlib.Core.Path.{_≡_, refl, sym, ap, subst, _∙_}
 use mathlib.Core.Bool.{true, false, true≢false}
 use mathlib.Core.List.{List, [], _∷_, _++_, append-assoc, append-nil}
+use Prim.Native.Nat.{_≤_}
+use native.Mathlib.Omega.{arith}
+use lib.ListN.{length}
 use Rattle.std.specs.declared.cmp.Ordering.{Ordering}
 use Rattle.std.specs.declared.cmp.Ordering.the-variants.{Less, Equal, Greater}
 use Rattle.std.specs.declared.option.Option.{Option}
@@ -9,8 +12,8 @@ use Rattle.std.specs.declared.option.Option.the-variants.{Some, None}
 use Rattle.std.specs.Options.{isSome, valueOr}
 use Rattle.std.specs.Orderings.{isLt, isGt, isEq, reversed}
 use Rattle.table.specs.Order.{Order}
-use Rattle.table.specs.Table.{choose, Before, Rising, inserted, insertedAll, tabled, lookup}
-use Rattle.table.specs.Theorems.{Stays-rising, Sets, Determined, Again, Tables}
+use Rattle.table.specs.Table.{choose, orElse, Before, Rising, inserted, insertedAll, tabled, lookup, lastOf}
+use Rattle.table.specs.Theorems.{Stays-rising, Sets, Rises, Last-stands, Determined, Again, Grows}
 
 still : (r : Ordering) → r ≡ reversed r → r ≡ Equal
 still Less e = absurd (true≢false (ap isLt e))
@@ -67,8 +70,8 @@ module _ {K R : Type 0} (o : Order K) (key : R → K) where
   all-rising xs [] h = h
   all-rising xs (r ∷ rs) h = all-rising (inserted o key xs r) rs (stays-rising xs r h)
 
-  pub tables : Tables o key
-  tables rs = all-rising [] rs tt
+  pub rises : Rises o key
+  rises rs = all-rising [] rs tt
 
   -- ---- an insertion sets its own key, and no other
 
@@ -96,6 +99,28 @@ module _ {K R : Type 0} (o : Order K) (key : R → K) where
   pub sets : Sets o key
   sets [] r k = refl
   sets (x ∷ xs) r k = sets-by x xs r k (c x r) refl (sets xs r k)
+
+  -- ---- the last row that was given with a key stands
+
+  later : (l f : Option R) (r : R) (j : Ordering) → orElse l (choose j f (Some r) f) ≡ orElse (orElse l (choose j None (Some r) None)) f
+  later (Some x) f r j = refl
+  later None f r Less = refl
+  later None f r Equal = refl
+  later None f r Greater = refl
+
+  none-else : (l : Option R) → orElse l None ≡ l
+  none-else (Some x) = refl
+  none-else None = refl
+
+  all-stand : (xs rs : List R) (k : K) → lookup o key (insertedAll o key xs rs) k ≡ orElse (lastOf o key rs k) (lookup o key xs k)
+  all-stand xs [] k = refl
+  all-stand xs (r ∷ rs) k =
+      all-stand (inserted o key xs r) rs k
+      ∙ ap (orElse (lastOf o key rs k)) (sets xs r k)
+      ∙ later (lastOf o key rs k) (lookup o key xs k) r (o .cmp (key r) k)
+
+  pub last-stands : Last-stands o key
+  last-stands given k = all-stand [] given k ∙ none-else (lastOf o key given k)
 
   -- ---- tables that have the same rows at each key are the same
 
@@ -160,3 +185,31 @@ module _ {K R : Type 0} (o : Order K) (key : R → K) where
 
   pub again : Again o key
   again xs h = all-last [] xs h
+
+  -- ---- where more rows are given, the table has as many rows or more
+
+  longer-by : (x : R) (xs : List R) (r : R) (k : Ordering) → length xs ≤ length (inserted o key xs r) → length (x ∷ xs) ≤ length (choose k (x ∷ inserted o key xs r) (r ∷ xs) (r ∷ x ∷ xs))
+  longer-by x xs r Less h = omega arith
+  longer-by x xs r Equal h = omega arith
+  longer-by x xs r Greater h = omega arith
+
+  longer : (xs : List R) (r : R) → length xs ≤ length (inserted o key xs r)
+  longer [] r = omega arith
+  longer (x ∷ xs) r = longer-by x xs r (c x r) (longer xs r)
+
+  longer-all : (xs rs : List R) → length xs ≤ length (insertedAll o key xs rs)
+  longer-all xs [] = omega arith
+  longer-all xs (r ∷ rs) = let h = longer xs r in let k = longer-all (inserted o key xs r) rs in omega arith
+
+  all-append : (xs rs ss : List R) → insertedAll o key xs (rs ++ ss) ≡ insertedAll o key (insertedAll o key xs rs) ss
+  all-append xs [] ss = refl
+  all-append xs (r ∷ rs) ss = all-append (inserted o key xs r) rs ss
+
+  pub tabled-more : (given : List R) (r : R) → tabled o key (given ++ r ∷ []) ≡ inserted o key (tabled o key given) r
+  tabled-more given r = all-append [] given (r ∷ [])
+
+  pub grows : Grows o key
+  grows given more =
+      let e = ap length (all-append [] given more) in
+      let h = longer-all (tabled o key given) more in
+      omega arith
