@@ -61,3 +61,12 @@ module _ {A B : Type 0} (a : Order A) (b : Order B) where
     flip = both-flip (total a) (total b);
     trans = both-trans (total a) (total b);
   }
+
+-- by what a one-to-one map gives
+abbrev pub along : {A B : Type 0} (f : A → B) → ((x y : A) → f x ≡ f y → x ≡ y) → Order B → Order A
+along f one o = record {
+  cmp = λ x y. o .cmp (f x) (f y);
+  equal = λ x y e. one x y (o .equal (f x) (f y) e);
+  flip = λ x y. o .flip (f x) (f y);
+  trans = λ x y z. o .trans (f x) (f y) (f z);
+}

@@ -1,0 +1,5 @@
+// The ordered table as another crate uses it: a caller from the first row to the last, a kind of its own, and cases.
+pub mod caller;
+#[cfg(test)]
+mod cases;
+pub mod named;
