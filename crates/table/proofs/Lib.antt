@@ -5,3 +5,5 @@ pub mod Puts
 pub mod Halves
 pub mod Stand
 pub mod More
+pub mod Orders
+pub mod Carried

@@ -43,17 +43,17 @@ module _ {K : Type 0} (o : Order K) (key : Row → K) (given rows : List Row) (r
     at p is = is (subst (Rising o key) (sym front) (rises o key given)) ∙ ap (λ xs. placed o key xs r) front
 
     -- over the row i, which has its key
-    pub over-same : (i : ℕ) → (Rising o key (take (used - 0) rows) → Ok i ≡ placed o key (take (used - 0) rows) r) → Filled o key (given ++ r ∷ []) (Used used) (set rows i r)
-    over-same i is =
+    pub over-same : (i : ℕ) → (Rising o key (take (used - 0) rows) → Ok i ≡ placed o key (take (used - 0) rows) r) → (after : List Row) → after ≡ set rows i r → Filled o key (given ++ r ∷ []) (Used used) after
+    over-same i is after after-is =
         let put = put-at o key old r i (at (Ok i) is) in
         let e : new ≡ set old i r = tabled-more o key given r ∙ put .1 in
         let l : length new ≡ length old = ap length e ∙ length-set old i r in
-        let m : length (set rows i r) ≡ length rows = length-set rows i r in
+        let m : length after ≡ length rows = ap length after-is ∙ length-set rows i r in
         let w = whole in
-        let b : length rows - used ≡ length (set rows i r) - used = omega arith in (
+        let b : length rows - used ≡ length after - used = omega arith in (
           omega arith,
           omega arith,
-          ap (λ xs. set xs i r) after-old ∙ set-append-left old (blanks (length rows - used)) i r (put .0) ∙ (λ j. sym e j ++ blanks (b j)),
+          after-is ∙ ap (λ xs. set xs i r) after-old ∙ set-append-left old (blanks (length rows - used)) i r (put .0) ∙ (λ j. sym e j ++ blanks (b j)),
         )
 
     -- between the rows i - 1 and i

@@ -1,4 +1,4 @@
--- Total orders, and the two that keys have here.
+-- Total orders: the two that keys have here, and how to make others of them.
 use mathlib.Core.Path.{_≡_, refl, ap}
 use mathlib.Core.Bool.{true≢false}
 use mathlib.Core.List.{List, [], _∷_}
@@ -9,6 +9,7 @@ use Rattle.std.specs.Orderings.{isLt, isGt, reversed, thenBy}
 use Rattle.std.specs.Keys.{Total, both, both-flip, both-trans, unsigned, rank, ranks, means, below-irrefl, below-chain}
 use Rattle.std.specs.Lexical.{lex, lex-flip, lex-trans}
 
+-- A comparison that is a total order, `Equal` at equal values alone.
 pub record Order (X : Type 0) : Type 0 where
   pub cmp : X → X → Ordering
   pub equal : (x y : X) → cmp x y ≡ Equal → x ≡ y
@@ -18,6 +19,7 @@ pub record Order (X : Type 0) : Type 0 where
 pub rank-equal : (x y : ℕ) → rank x y ≡ Equal → x ≡ y
 rank-equal x y = means (λ (a b : ℕ). a < b) below-irrefl below-chain rank ranks x y Equal
 
+-- Numbers by size.
 abbrev pub numbers : Order ℕ
 numbers = record { cmp = rank; equal = rank-equal; flip = unsigned .flip; trans = unsigned .trans }
 
@@ -32,12 +34,11 @@ lex-equal [] (y ∷ ys) h = absurd (true≢false (ap isLt h))
 lex-equal (x ∷ xs) [] h = absurd (true≢false (ap isGt h))
 lex-equal (x ∷ xs) (y ∷ ys) h = both-equal x y xs ys (rank x y) refl (lex-equal xs ys) h
 
+-- Byte strings byte by byte, a beginning before its extension.
 abbrev pub texts : Order (List ℕ)
 texts = record { cmp = lex unsigned; equal = lex-equal; flip = lex-flip unsigned; trans = lex-trans unsigned }
 
--- ---- one order after another
-
--- the same as std's `Total`, whose laws of pairs and lists then hold
+-- The same as std's `Total`, whose laws of pairs and lists then hold.
 abbrev pub total : {K : Type 0} (o : Order K) → Total (λ (x y : K) (r : Ordering). r ≡ o .cmp x y)
 total o = record {
   cmp = o .cmp;
@@ -53,7 +54,7 @@ module _ {A B : Type 0} (a : Order A) (b : Order B) where
   pair-equal x y Equal p h = λ i. (a .equal (x .0) (y .0) p i, b .equal (x .1) (y .1) h i)
   pair-equal x y Greater p h = absurd (true≢false (ap isGt h))
 
-  -- by the first, and among equals by the second
+  -- By the first, and among equals by the second.
   abbrev pub pairs : Order (A × B)
   pairs = record {
     cmp = both (total a) (total b);
@@ -62,7 +63,7 @@ module _ {A B : Type 0} (a : Order A) (b : Order B) where
     trans = both-trans (total a) (total b);
   }
 
--- by what a one-to-one map gives
+-- By what a one-to-one map gives.
 abbrev pub along : {A B : Type 0} (f : A → B) → ((x y : A) → f x ≡ f y → x ≡ y) → Order B → Order A
 along f one o = record {
   cmp = λ x y. o .cmp (f x) (f y);

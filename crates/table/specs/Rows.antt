@@ -14,6 +14,10 @@ keyPart section row = part section (row .«key_at») (row .«key_len»)
 abbrev pub valuePart : List ℕ → Row → List ℕ
 valuePart section row = part section (row .«value_at») (row .«value_len»)
 
+-- The entry that a row is: its key, whatever the kind, and its value.
+abbrev pub entryOf : {K : Type 0} → (Row → K) → List ℕ → Row → K × List ℕ
+entryOf key section row = (key row, valuePart section row)
+
 abbrev pub blank : Row
 blank = record { number = 0; «key_at» = 0; «key_len» = 0; «value_at» = 0; «value_len» = 0 }
 

@@ -11,13 +11,13 @@ use Rattle.std.specs.declared.result.Result.{Result}
 use Rattle.std.specs.declared.result.Result.the-variants.{Ok, Err}
 use Rattle.table.specs.Order.{Order}
 
--- the first at `Less`, the second at `Equal`, the third at `Greater`
+-- The first at `Less`, the second at `Equal`, the third at `Greater`.
 abbrev pub choose : {X : Type 0} → Ordering → X → X → X → X
 choose Less x y z = x
 choose Equal x y z = y
 choose Greater x y z = z
 
--- what is there, or else a second
+-- What is there, or else a second.
 abbrev pub orElse : {X : Type 0} → Option X → Option X → Option X
 orElse None y = y
 orElse (Some x) y = Some x
@@ -64,7 +64,7 @@ module _ {K R : Type 0} (o : Order K) (key : R → K) where
   placed [] r = Err 0
   placed (x ∷ xs) r = choose (o .cmp (key x) (key r)) (next (placed xs r)) (Ok 0) (Err 0)
 
--- a place of a row that is there, or a place between rows, their ends included
+-- A place among n rows: of a row that is there, or between two, before the first or after the last.
 abbrev pub Within : Result ℕ ℕ → ℕ → Type 0
 Within (Ok i) n = i < n
 Within (Err i) n = i ≤ n

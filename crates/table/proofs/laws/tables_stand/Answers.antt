@@ -1,3 +1,6 @@
+use mathlib.Core.Path.{refl}
+use Rattle.table.specs.Rows.{entryOf}
+use Rattle.table.proofs.Carried.{carries}
 use Rattle.table.proofs.Stand.{stays-rising, sets, rises, last-stands, determined, again, grows}
 use Rattle.table.proofs.laws.tables_stand.Needs as need
 
@@ -13,4 +16,5 @@ returns g c =
       determined = determined o key;
       again = again o key;
       grows = grows o key;
+      entries = carries o key (λ e. e .0) (entryOf key (c .args .section .now)) (λ _. refl);
     }

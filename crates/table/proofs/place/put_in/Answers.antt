@@ -2,6 +2,7 @@ use mathlib.Core.Path.{_≡_, ap, _∙_}
 use Prim.Native.Nat.{_≤_, _<_}
 use native.Mathlib.Omega.{arith}
 use lib.ListN.{set}
+use Rattle.table.specs.Rows.{blank}
 use Rattle.table.proofs.Shifts.{shifted, shifted-none, shifted-more, shifted-set}
 use Rattle.table.proofs.place.put_in.Needs as need
 
@@ -10,7 +11,7 @@ loop-j-holds c = (c .pre .place, omega arith, shifted-none (c .args .rows .now) 
 
 pub loop-j-again : need.loop-j-again
 loop-j-again c =
-    (omega arith, omega arith, shifted-more (c .args .rows .now) (c .args .used) (c .pre .space) (c .loop-j .rows) (c .loop-j .j) _ (omega arith) (c .loop-j .inv .1) (c .loop-j .inv .2))
+    (omega arith, omega arith, shifted-more (c .args .rows .now) (c .args .used) (c .pre .space) (c .loop-j .rows) (c .loop-j .j) blank (omega arith) (c .loop-j .inv .1) (c .loop-j .inv .2))
 
 pub returns : need.returns
 returns c =
