@@ -4,7 +4,7 @@ use mathlib.Core.List.{List, [], _∷_, map}
 use Rattle.std.specs.declared.cmp.Ordering.{Ordering}
 use Rattle.std.specs.declared.cmp.Ordering.the-variants.{Less, Equal, Greater}
 use Rattle.table.specs.Order.{Order}
-use Rattle.table.specs.Table.{choose, inserted, insertedAll, tabled}
+use Rattle.table.specs.Table.{choose, inserted, insertedAll}
 use Rattle.table.specs.Theorems.{Carries}
 
 module _ {K R S : Type 0} (o : Order K) (key : R → K) (key′ : S → K) (f : R → S) (kept : (r : R) → key′ (f r) ≡ key r) where

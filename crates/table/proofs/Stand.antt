@@ -10,7 +10,7 @@ use Rattle.std.specs.declared.cmp.Ordering.the-variants.{Less, Equal, Greater}
 use Rattle.std.specs.declared.option.Option.{Option}
 use Rattle.std.specs.declared.option.Option.the-variants.{Some, None}
 use Rattle.std.specs.Options.{isSome, valueOr}
-use Rattle.std.specs.Orderings.{isLt, isGt, isEq, reversed}
+use Rattle.std.specs.Orderings.{isLt, isGt, reversed}
 use Rattle.table.specs.Order.{Order}
 use Rattle.table.specs.Table.{choose, orElse, Before, Rising, inserted, insertedAll, tabled, lookup, lastOf}
 use Rattle.table.specs.Theorems.{Stays-rising, Sets, Rises, Last-stands, Determined, Again, Grows}

@@ -1,5 +1,4 @@
 // A kind whose keys are an enum: the rows with the number 0 have one key, and the others go by their text.
-ghost use mathlib.Core.Path.{_≡_};
 ghost use Rattle.table_cases.specs.Names.{Name, names, nameOf};
 use std::cmp::Ordering;
 use table::kind::Kind;
