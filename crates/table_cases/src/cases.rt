@@ -2,6 +2,10 @@
 use crate::caller::tabulate;
 use crate::named::Named;
 use crate::named::NamedKind;
+use crate::reader::Refused;
+use crate::reader::RefusedDebug;
+use crate::reader::RefusedPartialEq;
+use crate::reader::read;
 use std::test::*;
 use table::kind::Numbers;
 use table::kind::NumbersKind;
@@ -126,4 +130,18 @@ fn rows_used_again() -> Result<(), Fail> {
     check_eq(rows[2], Row::BLANK)?;
     check(rows[1].key(section).len() == 2)?;
     check(DIRTY.value(section).len() == 0)
+}
+
+#[test]
+fn fault_comes_before_too_few_rows() -> Result<(), Fail> {
+    let mut rows = [DIRTY; 2];
+    check_eq(read(&mut rows, &[9, 4, 9]), Ok(2))?;
+    check(rows[0].number == 4 && rows[1].number == 9)?;
+    check_eq(read(&mut rows, &[3, 2, 1, 2]), Err(Refused::TooFewRows))?;
+    check_eq(rows[1], Row::BLANK)?;
+    check_eq(
+        read(&mut rows, &[3, 2, 1, 255, 255]),
+        Err(Refused::Fault { at: 3 }),
+    )?;
+    check_eq(rows[0], Row::BLANK)
 }
