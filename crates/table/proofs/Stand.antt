@@ -1,6 +1,6 @@
 -- What holds of tables: the theorems of specs/Theorems.
 use mathlib.Core.Path.{_≡_, refl, sym, ap, subst, _∙_}
-use mathlib.Core.Bool.{true, false, true≢false}
+use mathlib.Core.Bool.{true≢false}
 use mathlib.Core.List.{List, [], _∷_, _++_, append-assoc, append-nil}
 use Prim.Native.Nat.{_≤_}
 use native.Mathlib.Omega.{arith}
@@ -19,11 +19,6 @@ still : (r : Ordering) → r ≡ reversed r → r ≡ Equal
 still Less e = absurd (true≢false (ap isLt e))
 still Equal e = refl
 still Greater e = absurd (true≢false (ap isGt e))
-
-same-choice : {X : Type 0} (k : Ordering) (x y : X) → (k ≡ Equal → y ≡ x) → choose k x y x ≡ x
-same-choice Less x y f = refl
-same-choice Equal x y f = f refl
-same-choice Greater x y f = refl
 
 module _ {K R : Type 0} (o : Order K) (key : R → K) where
   abbrev c : R → R → Ordering
