@@ -2,10 +2,12 @@
 """Writes crates/perf_info/stdout: what perf_info has to print of its sample, by the independent reader in images.py.
 
 Run it from the top of the repository, with the output of 'perf report --header-only -I' on the sample as standard
-input: the features that perf calls missing have to be those with a name that the reader finds no section of.
+input. What perf prints has to agree: the features that it calls missing are those with a name that the reader finds no
+section of, and the texts are those that it prints.
 """
 
 import re
+import struct
 import sys
 
 from images import read_any
@@ -18,14 +20,48 @@ SIMPLEPERF = "FILE META_INFO DEBUG_UNWIND DEBUG_UNWIND_FILE FILE2".split()
 NAMES = dict(enumerate(PERF, 1)) | {n: "SIMPLEPERF_" + name for n, name in enumerate(SIMPLEPERF, 128)}
 
 
+# the sections that are header texts, with perf's words for them
+TEXTS = {3: "hostname", 4: "os release", 5: "perf version", 6: "arch", 8: "cpudesc", 9: "cpuid"}
+
+
+def header_text(order, section, at=0):
+    """A u32 length and that many bytes, cut at the first NUL; with the offset behind it."""
+    end = at + 4 + struct.unpack_from(order + "I", section, at)[0]
+    return section[at + 4 : end].split(b"\0")[0].decode(), end
+
+
+def words(order, section):
+    at, found = 4, []
+    for _ in range(struct.unpack_from(order + "I", section)[0]):
+        word, at = header_text(order, section, at)
+        found.append(word)
+    return found
+
+
+def fact(order, number, section, printed):
+    """What stands behind a section's length, if anything."""
+    if number in TEXTS:
+        text, _ = header_text(order, section)
+        assert printed[TEXTS[number]] == text, (number, text)
+        return ": " + text
+    if number == 11:
+        found = words(order, section)
+        assert printed["cmdline"].split() == found, found
+        return ": " + " ".join(found)
+    return ""
+
+
 def main():
     with open("crates/perf_info/stdin", "rb") as sample:
         order, sections = read_any(sample.read())
-    missing = re.search(r"^# missing features: (.*)$", sys.stdin.read(), re.M).group(1).split()
+    printed = dict(re.findall(r"^# ([a-z ]+?) *: (.*)$", sys.stdin.read(), re.M))
+    missing = printed["missing features"].split()
     ours = [name for n, name in NAMES.items() if n < 128 and n not in sections]
     assert missing == ours, (missing, ours)
     lines = ["file image, " + {"<": "little-endian", ">": "big-endian"}[order]]
-    lines += [f"{n:>3} {NAMES.get(n, 'unknown')}: {len(sections[n])} bytes" for n in sorted(sections)]
+    for n in sorted(sections):
+        name = NAMES.get(n, "unknown")
+        lines.append(f"{n:>3} {name} ({len(sections[n])} bytes)" + fact(order, n, sections[n], printed))
     with open("crates/perf_info/stdout", "w") as out:
         out.writelines(line + "\n" for line in lines)
 
