@@ -67,7 +67,10 @@ fn print_text(rt: &LibcRuntime, answer: Result<Option<&str>, Refusal>) -> io::Re
     }
 }
 
-fn print_words(rt: &LibcRuntime, answer: Result<Option<StringList<'_>>, Refusal>) -> io::Result<()> {
+fn print_words(
+    rt: &LibcRuntime,
+    answer: Result<Option<StringList<'_>>, Refusal>,
+) -> io::Result<()> {
     match answer {
         Ok(Some(words)) => {
             print!(rt, ":")?;

@@ -17,8 +17,9 @@ returns-in-Ok c = record {
 
 pub returns-in-Err : need.returns-in-Err
 returns-in-Err c = record {
-  steps =
-    (readable-stop (c .args .self .now .order) (c .args .self .now .left) (c .args .self .now .rest .now) _ (sym (c .in-Err .ensures tt)),
-    readable-none (c .args .self .now .order) 0 (c .args .self .now .rest .now) refl);
+  steps = (
+    readable-stop (c .args .self .now .order) (c .args .self .now .left) (c .args .self .now .rest .now) _ (sym (c .in-Err .ensures tt)),
+    readable-none (c .args .self .now .order) 0 (c .args .self .now .rest .now) refl,
+  );
   goes = search needs;
 }
