@@ -44,6 +44,18 @@ def fact(order, number, section, printed):
         text, _ = header_text(order, section)
         assert printed[TEXTS[number]] == text, (number, text)
         return ": " + text
+    if number == 7:
+        available, online = struct.unpack_from(order + "II", section)
+        assert (printed["nrcpus avail"], printed["nrcpus online"]) == (str(available), str(online))
+        return f": {online} online, {available} available"
+    if number == 10:
+        kilobytes = struct.unpack_from(order + "Q", section)[0]
+        assert printed["total memory"] == f"{kilobytes} kB"
+        return f": {kilobytes} kB"
+    if number == 21:
+        first, last = struct.unpack_from(order + "QQ", section)
+        assert printed["time of first sample"] == f"{first // 10**9}.{first % 10**9 // 1000:06}", first
+        return f": {first} ns to {last} ns"
     if number == 11:
         found = words(order, section)
         assert printed["cmdline"].split() == found, found

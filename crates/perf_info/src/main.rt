@@ -1,12 +1,28 @@
 // Tells what a recording holds: its kind, its byte order and its feature sections, with the facts that are known how to
 // read; or where it is refused.
+mod numbers;
 mod printable;
+mod refused;
 
+use fixed_facts::perf_file::clock_data;
+use fixed_facts::perf_file::clock_frequency;
+use fixed_facts::perf_file::compression_info;
+use fixed_facts::perf_file::is_stats;
+use fixed_facts::perf_file::nr_cpus;
+use fixed_facts::perf_file::sample_time_range;
+use fixed_facts::perf_file::total_mem;
 use image::ask::section_of;
 use image::kinds::Image;
 use image::kinds::ImageStore;
 use image::kinds::Kind;
 use image::store::Store;
+use numbers::print_clock;
+use numbers::print_compression;
+use numbers::print_cpus;
+use numbers::print_frequency;
+use numbers::print_memory;
+use numbers::print_stats;
+use numbers::print_times;
 use perf_data::features::Feature;
 use perf_data::perf_file::arch;
 use perf_data::perf_file::cmdline;
@@ -19,6 +35,8 @@ use perf_data::string_list::StringList;
 use perf_data::string_list::StringListIterator;
 use printable::Printable;
 use printable::PrintableDisplay;
+use refused::print_fault;
+use refused::print_refusal;
 use std::io;
 use std::io::Read;
 use wire::order::ByteOrder;
@@ -42,14 +60,6 @@ fn order_name(order: ByteOrder) -> &'static str {
     }
 }
 
-fn print_refusal(rt: &LibcRuntime, refusal: Refusal) -> io::Result<()> {
-    let fault = refusal.fault();
-    let number = fault.number;
-    let feature = fault.feature;
-    let offset = fault.offset;
-    println!(rt, "refused {number} {feature} {offset}")
-}
-
 fn print_text(rt: &LibcRuntime, answer: Result<Option<&str>, Refusal>) -> io::Result<()> {
     match answer {
         Ok(Some(text)) => {
@@ -60,10 +70,7 @@ fn print_text(rt: &LibcRuntime, answer: Result<Option<&str>, Refusal>) -> io::Re
             println!(rt, ": {shown}")
         }
         Ok(None) => println!(rt, ""),
-        Err(refusal) => {
-            print!(rt, ": ")?;
-            print_refusal(rt, refusal)
-        }
+        Err(refusal) => print_fault(rt, refusal),
     }
 }
 
@@ -84,10 +91,7 @@ fn print_words(
             println!(rt, "")
         }
         Ok(None) => println!(rt, ""),
-        Err(refusal) => {
-            print!(rt, ": ")?;
-            print_refusal(rt, refusal)
-        }
+        Err(refusal) => print_fault(rt, refusal),
     }
 }
 
@@ -100,7 +104,14 @@ fn print_fact<'a, S: Store<'a>>(rt: &LibcRuntime, store: &S, feature: Feature) -
         Feature::ARCH => print_text(rt, arch(store)),
         Feature::CPUDESC => print_text(rt, cpu_desc(store)),
         Feature::CPUID => print_text(rt, cpu_id(store)),
+        Feature::NRCPUS => print_cpus(rt, nr_cpus(store)),
+        Feature::TOTAL_MEM => print_memory(rt, total_mem(store)),
         Feature::CMDLINE => print_words(rt, cmdline(store)),
+        Feature::STAT => print_stats(rt, is_stats(store)),
+        Feature::SAMPLE_TIME => print_times(rt, sample_time_range(store)),
+        Feature::CLOCKID => print_frequency(rt, clock_frequency(store)),
+        Feature::COMPRESSED => print_compression(rt, compression_info(store)),
+        Feature::CLOCK_DATA => print_clock(rt, clock_data(store)),
         _ => println!(rt, ""),
     }
 }
