@@ -2,6 +2,7 @@
 // feature that it belongs to, and its offset within the bytes of that layer. The definition `faultOf` gives all four.
 ghost use mathlib.Core.Path.{_≡_};
 ghost use Rattle.wire.specs.Faults.{imageFault, sectionFault, symbolFault, stateFault, faultOf};
+use std::fmt;
 
 // What an offset counts from.
 #[derive(Clone, Copy, PartialEq, Eq, Debug)]
@@ -25,7 +26,7 @@ pub struct Fault {
     pub offset: u32,
 }
 
-#[derive(Clone, Copy, PartialEq, Eq, Debug)]
+#[derive(Clone, Copy)]
 pub enum Refusal {
     // 1: an image shorter than the fixed front of its kind
     ImageTooShort,
@@ -163,5 +164,17 @@ impl Refusal {
             Refusal::NumbersUsedUp => state(36, 256),
             Refusal::BadOpening => state(37, 256),
         }
+    }
+}
+
+// A refusal by its number and place, as the programs print it.
+pub impl fmt::Debug for Refusal as RefusalDebug {
+    fn fmt<W: fmt::Write>(&self, f: &mut fmt::Formatter<W>) -> fmt::Result {
+        let fault = self.fault();
+        let number = fault.number;
+        let layer = fault.layer as u32;
+        let feature = fault.feature;
+        let offset = fault.offset;
+        write!(f, "refused {number} {layer} {feature} {offset}")
     }
 }
