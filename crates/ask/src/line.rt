@@ -17,12 +17,11 @@ pub struct Line<'a> {
 }
 
 impl<'a> Line<'a> {
-    // The section, as that of a feature.
+    // The section, as that of a feature; or a store with none, since no feature has the number 256.
     pub fn store(&self, feature: u32) -> SectionStore<'a> {
-        SectionStore {
-            order: self.order,
-            feature,
-            section: self.section,
+        match self.section {
+            Some(bytes) => SectionStore::new(self.order, feature, bytes),
+            None => SectionStore::new(self.order, 256, &[]),
         }
     }
 }

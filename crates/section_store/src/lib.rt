@@ -1,20 +1,34 @@
-// A store of one section, or of none: a kind of store of its own, for programs that are handed a section and not an image.
+// A store of one section: for programs that read the sections of one feature, and a kind of store of its own.
 ghost use mathlib.Core.Path.{_≡_};
-ghost use Rattle.section_store.specs.Single.{singleMap};
+ghost use Rattle.section_store.specs.Sections.{featuresIn, featuresOf};
 use image::store::Store;
 use wire::order::ByteOrder;
 
 #[derive(Clone, Copy)]
 pub struct SectionStore<'a> {
-    pub order: ByteOrder,
-    pub feature: u32,
-    pub section: Option<&'a [u8]>,
+    order: ByteOrder,
+    feature: u32,
+    bytes: &'a [u8],
+}
+
+impl<'a> SectionStore<'a> {
+    // A store whose one section is that of a feature. It has none where the feature is above 255 or the bytes are too many.
+    pub fn new(order: ByteOrder, feature: u32, bytes: &'a [u8]) -> SectionStore<'a>
+        ensures order { λ r. ⌜ r .order ≡ order ⌝ }
+        ensures sections { λ r. ⌜ featuresOf r ≡ featuresIn feature (now (bytes .entry)) ⌝ }
+    {
+        SectionStore {
+            order,
+            feature,
+            bytes,
+        }
+    }
 }
 
 pub impl<'a> Store<'a> for SectionStore<'a> as SectionStoreStore {
     ghost endian = { λ s. s .order };
 
-    ghost map = { singleMap };
+    ghost map = { featuresOf };
 
     fn order(&self) -> ByteOrder {
         self.order
@@ -27,15 +41,9 @@ pub impl<'a> Store<'a> for SectionStore<'a> as SectionStoreStore {
         if number != self.feature {
             return None;
         }
-        match self.section {
-            None => None,
-            Some(bytes) => {
-                if bytes.len() > 16_777_216 {
-                    None
-                } else {
-                    Some(bytes)
-                }
-            }
+        if self.bytes.len() > 16_777_216 {
+            return None;
         }
+        Some(self.bytes)
     }
 }

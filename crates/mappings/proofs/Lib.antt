@@ -1,0 +1,10 @@
+pub mod Joins
+pub mod Places
+pub mod Tied
+pub mod PmuItems
+pub mod PmuTied
+pub mod Pieces
+pub mod Pairs
+pub mod MetaTied
+pub mod Splitting
+pub mod Examples

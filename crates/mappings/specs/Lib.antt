@@ -1,0 +1,5 @@
+pub mod Tables
+pub mod PmuMappings
+pub mod MetaInfo
+pub mod Entries
+pub mod Laws
