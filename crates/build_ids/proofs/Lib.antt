@@ -1,0 +1,4 @@
+pub mod Reading
+pub mod Parts
+pub mod Filling
+pub mod Entries

@@ -1,0 +1,4 @@
+pub mod Bytes
+pub mod Rules
+pub mod Leasts
+pub mod Writes
