@@ -15,6 +15,12 @@ pub enum Question {
     CompressionInfo,
     ClockData,
     IsStats,
+    PmuMappings,
+    MetaInfo,
+    BuildIds,
+    SymbolTables,
+    Detect,
+    Shown,
 }
 
 pub fn question_of(word: &str) -> Option<Question> {
@@ -34,6 +40,12 @@ pub fn question_of(word: &str) -> Option<Question> {
             "compression_info" => Question::CompressionInfo,
             "clock_data" => Question::ClockData,
             "is_stats" => Question::IsStats,
+            "pmu_mappings" => Question::PmuMappings,
+            "meta_info" => Question::MetaInfo,
+            "build_ids" => Question::BuildIds,
+            "symbol_tables" => Question::SymbolTables,
+            "detect" => Question::Detect,
+            "shown" => Question::Shown,
             _ => return None,
         },
     )

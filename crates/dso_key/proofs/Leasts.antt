@@ -2,6 +2,7 @@
 use Prim.Native.Nat.{ℕ, zero, suc, _+_, _-_, _≤_, _<_}
 use mathlib.Core.Path.{_≡_, refl, sym, ap, subst, _∙_}
 use mathlib.Core.Bool.{Bool, true, false, cond, true≢false}
+use mathlib.Core.Logic.{⊎-elim}
 use mathlib.Core.List.{List}
 use native.Mathlib.Omega.{arith}
 use Rattle.std.specs.Options.{isSome}
@@ -11,6 +12,7 @@ use Rattle.std.specs.declared.cmp.Ordering.{Ordering}
 use Rattle.std.specs.declared.cmp.Ordering.the-variants.{Less, Equal, Greater}
 use Rattle.std.specs.declared.option.Option.{Option}
 use Rattle.std.specs.declared.option.Option.the-variants.{Some, None}
+use Rattle.std.proofs.shelf.Tests.{cases-lt}
 use Rattle.dso_key.specs.declared.cpu_mode.CpuMode.{CpuMode}
 use Rattle.dso_key.specs.declared.cpu_mode.CpuMode.the-variants.{Unknown, Kernel, User, Hypervisor, GuestKernel, GuestUser}
 use Rattle.dso_key.specs.Detect.{detect}
@@ -70,6 +72,28 @@ module _ (path : List ℕ) (key : Key) where
   from-gives zero m = tt
   from-gives (suc n) m = gives-by n m (isThe key (detect path (modeOf m))) refl (from-gives n (suc m))
 
+  -- and no lower one gives it
+  least-by : (n m : ℕ) (b : Bool) → b ≡ isThe key (detect path (modeOf m)) → found (leastFrom n (suc m) path key) (λ r. (k : ℕ) → suc m ≤ k → k < r → detect path (modeOf k) ≡ Some key → ⊥) → found (cond b (Some m) (leastFrom n (suc m) path key)) (λ r. (k : ℕ) → m ≤ k → k < r → detect path (modeOf k) ≡ Some key → ⊥)
+  least-by n m true e more = λ k l u g. omega arith
+  least-by n m false e more = wider (leastFrom n (suc m) path key) more where
+    here : (k : ℕ) → k ≡ m → detect path (modeOf k) ≡ Some key → ⊥
+    here k q g = true≢false (sym (the-self key (detect path (modeOf m)) (ap (λ i. detect path (modeOf i)) (sym q) ∙ g)) ∙ sym e)
+
+    wider : (o : Option ℕ) → found o (λ r. (k : ℕ) → suc m ≤ k → k < r → detect path (modeOf k) ≡ Some key → ⊥) → found o (λ r. (k : ℕ) → m ≤ k → k < r → detect path (modeOf k) ≡ Some key → ⊥)
+    wider None h = tt
+    wider (Some r) h = λ k l u g. ⊎-elim (λ up. h k (omega arith) u g) (λ low. here k (omega arith) g) (cases-lt m k)
+
+  from-least : (n m : ℕ) → found (leastFrom n m path key) (λ r. (k : ℕ) → m ≤ k → k < r → detect path (modeOf k) ≡ Some key → ⊥)
+  unfolding leastFrom
+  from-least zero m = tt
+  from-least (suc n) m = least-by n m (isThe key (detect path (modeOf m))) refl (from-least n (suc m))
+
+  from-first : found (leastFrom 6 0 path key) (λ r. (k : ℕ) → k < r → detect path (modeOf k) ≡ Some key → ⊥)
+  from-first = wider (leastFrom 6 0 path key) (from-least 6 0) where
+    wider : (o : Option ℕ) → found o (λ r. (k : ℕ) → 0 ≤ k → k < r → detect path (modeOf k) ≡ Some key → ⊥) → found o (λ r. (k : ℕ) → k < r → detect path (modeOf k) ≡ Some key → ⊥)
+    wider None h = tt
+    wider (Some r) h = λ k u g. h k (omega arith) u g
+
   -- a mode that gives the key is found, or one below it
   some-by : (n m : ℕ) (b : Bool) → isSome (leastFrom n (suc m) path key) ≡ true → isSome (cond b (Some m) (leastFrom n (suc m) path key)) ≡ true
   some-by n m true more = refl
@@ -116,3 +140,10 @@ again-of path (Some key) = from-gives path key 6 0
 
 pub least-again : (path : List ℕ) (mode : CpuMode) → found (leastMode path mode) (λ m. (m < 6) × (detect path (modeOf m) ≡ detect path mode))
 least-again path mode = again-of path (detect path mode)
+
+first-of : (path : List ℕ) (o : Option Key) → found (leastOf path o) (λ m. (k : ℕ) → k < m → detect path (modeOf k) ≡ o → ⊥)
+first-of path None = tt
+first-of path (Some key) = from-first path key
+
+pub least-first : (path : List ℕ) (mode : CpuMode) → found (leastMode path mode) (λ m. (k : ℕ) → k < m → detect path (modeOf k) ≡ detect path mode → ⊥)
+least-first path mode = first-of path (detect path mode)

@@ -1,6 +1,6 @@
 // The least mode that gives a key for a path: what a key is kept by, beside its path.
 ghost use mathlib.Core.Path.{_≡_};
-ghost use Prim.Native.Nat.{_<_};
+ghost use Prim.Native.Nat.{ℕ, _<_};
 ghost use Rattle.std.specs.Options.{isSome};
 ghost use Rattle.std.specs.Slices.{found};
 ghost use Rattle.dso_key.specs.Detect.{detect};
@@ -41,12 +41,13 @@ fn least(path: &[u8], mode: CpuMode) -> Option<u32>
     least_giving(path, DsoKey::detect(path, mode)?)
 }
 
-// The number of the least mode that gives the key that the path has in a mode, if it has one there. It does give that very
-// key.
+// The number of the least mode that gives the key that the path has in a mode, if it has one there. It gives that very key,
+// and no lower mode does.
 pub fn least_mode(path: &[u8], mode: CpuMode) -> Option<u32>
     ensures is { λ r. ⌜ r ≡ leastMode (now (path .entry)) mode ⌝ }
     ensures some { λ r. ⌜ isSome r ≡ isSome (detect (now (path .entry)) mode) ⌝ }
     ensures again { λ r. ⌜ found r (λ m. (m < 6) × (detect (now (path .entry)) (modeOf m) ≡ detect (now (path .entry)) mode)) ⌝ }
+    ensures first { λ r. ⌜ found r (λ m. (k : ℕ) → k < m → detect (now (path .entry)) (modeOf k) ≡ detect (now (path .entry)) mode → ⊥) ⌝ }
 {
     least(path, mode)
 }

@@ -1,7 +1,7 @@
 -- The items of a section of pmu names, one after the other.
 use Prim.Native.Nat.{ℕ, zero, suc, _+_, _-_, _≤_, _<_}
 use mathlib.Core.Path.{_≡_, refl, sym, ap, _∙_}
-use mathlib.Core.List.{List, [], _∷_, _++_}
+use mathlib.Core.List.{List, [], _++_, append-nil}
 use native.Mathlib.Omega.{arith}
 use lib.ListN.{length, drop}
 use Rattle.std.specs.declared.option.Option.{Option}
@@ -9,6 +9,7 @@ use Rattle.std.specs.declared.option.Option.the-variants.{Some, None}
 use Rattle.std.specs.declared.result.Result.{Result}
 use Rattle.std.specs.declared.result.Result.the-variants.{Ok, Err}
 use Rattle.std.specs.Options.{valueOr}
+use Rattle.std.specs.Vec.{listOf}
 use Rattle.std.proofs.shelf.Lists.{length-drop}
 use Rattle.wire.specs.Numbers.{number}
 use Rattle.wire.specs.declared.order.ByteOrder.{ByteOrder}
@@ -34,12 +35,9 @@ module _ {X : Type 0} (make : ℕ → ℕ → List ℕ → X) (o : ByteOrder) (t
   items-none n s e = rw e refl
 
 -- what an item gives comes next, if it gives something
-module _ {X : Type 0} (so-far : List X) where
-  pub given-some : (x : X) (g : Option X) (more : Result (List X) Fault) → g ≡ Some x → joined so-far (givenBefore g more) ≡ joined (so-far ++ x ∷ []) more
-  given-some x g more e = ap (λ y. joined so-far (givenBefore y more)) e ∙ joined-more so-far x more
-
-  pub given-none : (g : Option X) (more : Result (List X) Fault) → g ≡ None → joined so-far (givenBefore g more) ≡ joined so-far more
-  given-none g more e = ap (λ y. joined so-far (givenBefore y more)) e
+pub given-next : {X : Type 0} (so-far : List X) (g : Option X) (more : Result (List X) Fault) → joined so-far (givenBefore g more) ≡ joined (so-far ++ listOf g) more
+given-next so-far None more = ap (λ xs. joined xs more) (sym (append-nil so-far))
+given-next so-far (Some x) more = joined-more so-far x more
 
 -- what follows an item is no longer than what it was read from
 module _ {X : Type 0} (make : ℕ → ℕ → List ℕ → X) (o : ByteOrder) where

@@ -1,12 +1,17 @@
 // PMU_MAPPINGS, feature 16: the kernel's numbers of performance monitoring units, with their names.
 ghost use mathlib.Core.Path.{_≡_};
+ghost use mathlib.Core.List.{List, _++_};
 ghost use Prim.Native.Nat.{_+_, _≤_};
 ghost use lib.ListN.{length};
 ghost use Rattle.wire.specs.Faults.{faultOf};
 ghost use Rattle.mappings.specs.PmuMappings.{cut, itemAt, itemRead, nameRow, pastText, keyOf, pmuRows, pmuNames};
 ghost use Rattle.mappings.specs.Tables.{Made, counted, within, laidOut, laidFor, outcome, entriesIn, bytesIn};
 ghost use Rattle.perf_data.specs.Questions.{question, answered, mapped};
+ghost use Rattle.std.specs.Vec.{listOf};
+ghost use Rattle.table.specs.Fills.{Filled};
+ghost use Rattle.table.specs.Order.{numbers};
 ghost use Rattle.table.specs.Rows.{entryOf};
+ghost use Rattle.table.specs.declared.row.Row.{Row as Rows};
 ghost use Rattle.mappings.specs.Entries.{ofPmu};
 use crate::settle::settle;
 use image::store::Store;
@@ -79,12 +84,22 @@ fn read_item(order: ByteOrder, at: usize, s: &[u8]) -> Result<Item<'_>, Refusal>
                 rest,
             })
         }
-        Err(TextFault::ShortLength) => Err(TextFault::ShortLength.refusal(16, at as u32 + 4)),
+        Err(TextFault::ShortLength) => Err(cut_short(at + 4)),
         Err(TextFault::PastEnd) => Err(cut_short(at + 8)),
         Err(TextFault::IllFormed) => Ok(Item {
             row: None,
             rest: past_text(order, text),
         }),
+    }
+}
+
+// Puts what an item gives into the table, if it gives something.
+fn put(fill: Fill, rows: &mut [Row], given: Option<Row>) -> Fill
+    ensures { λ r. ⌜ ((before : List Rows) → Filled numbers keyOf before fill (now (rows .entry)) → Filled numbers keyOf (before ++ listOf given) r (now (rows .exit))) ⌝ }
+{
+    match given {
+        Some(row) => fill.add(&Numbers, rows, row),
+        None => fill,
     }
 }
 
@@ -100,9 +115,7 @@ fn read_items(order: ByteOrder, section: &[u8], rows: &mut [Row]) -> Result<Fill
     let mut rest = tail(section, 4);
     for _k in 0..count {
         let item = read_item(order, section.len() - rest.len(), rest)?;
-        if let Some(row) = item.row {
-            fill = fill.add(&Numbers, rows, row);
-        }
+        fill = put(fill, rows, item.row);
         rest = item.rest;
     }
     Ok(fill)

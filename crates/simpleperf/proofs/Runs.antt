@@ -1,17 +1,16 @@
 -- Items up to the end of some bytes, each of a byte at least.
-use Prim.Native.Nat.{ℕ, zero, suc, _+_, _-_, _≤_, _<_}
+use Prim.Native.Nat.{ℕ, zero, suc, _-_, _≤_, _<_}
 use mathlib.Core.Path.{_≡_, refl, sym, ap, _∙_}
 use mathlib.Core.List.{List, [], _∷_}
 use native.Mathlib.Omega.{arith}
 use lib.ListN.{length}
-use Rattle.std.specs.declared.option.Option.{Option}
 use Rattle.std.specs.declared.option.Option.the-variants.{Some, None}
 use Rattle.std.specs.declared.result.Result.{Result}
 use Rattle.std.specs.declared.result.Result.the-variants.{Ok, Err}
 use Rattle.wire.specs.declared.refusal.Fault.{Fault}
 use Rattle.perf_data.specs.Texts.{firstFault}
 use Rattle.simpleperf.specs.Parse.{Got, before, thenRun, runOf, run, whileRead, readable}
-use Rattle.simpleperf.proofs.Items.{readable-none, readable-more, readable-stop}
+use Rattle.simpleperf.proofs.Items.{readable-more}
 
 fault-before : {V : Type 0} (v : V) (r : Result (List V) Fault) → firstFault (before v r) ≡ firstFault r
 fault-before v (Ok vs) = refl

@@ -1,6 +1,6 @@
 -- A record with its length before it has four bytes at least.
-use Prim.Native.Nat.{ℕ, _+_, _-_, _≤_, _<_}
-use mathlib.Core.Path.{_≡_, refl, sym, ap, _∙_}
+use Prim.Native.Nat.{ℕ, _-_, _≤_, _<_}
+use mathlib.Core.Path.{_≡_, refl, sym, ap}
 use mathlib.Core.Bool.{Bool, true, false, cond}
 use mathlib.Core.List.{List}
 use native.Mathlib.Omega.{arith}
@@ -16,7 +16,7 @@ use Rattle.wire.specs.Faults.{sectionFault}
 use Rattle.wire.specs.Numbers.{number, numberOf}
 use Rattle.wire.specs.declared.order.ByteOrder.{ByteOrder}
 use Rattle.wire.specs.declared.refusal.Fault.{Fault}
-use Rattle.simpleperf.specs.Parse.{Got, got, andThen, numberRead, within}
+use Rattle.simpleperf.specs.Parse.{Got, andThen, numberRead, within}
 use Rattle.simpleperf.specs.Tables.{File, fileIn, fileOfLength, sizedFile}
 use Rattle.simpleperf.proofs.Items.{not-ok}
 

@@ -1,3 +1,4 @@
 pub mod Parse
 pub mod Tables
 pub mod Answers
+pub mod Numbered

@@ -4,11 +4,10 @@ use mathlib.Core.Bool.{cond}
 use mathlib.Core.List.{List, [], _∷_}
 use lib.Dec.{eqb, ltb}
 use lib.ListN.{length, take, drop}
-use Rattle.std.specs.Finite.{nth}
 use Rattle.std.specs.declared.option.Option.{Option}
 use Rattle.std.specs.declared.option.Option.the-variants.{Some, None}
 use Rattle.std.specs.declared.result.Result.{Result}
-use Rattle.std.specs.declared.result.Result.the-variants.{Ok, Err}
+use Rattle.std.specs.declared.result.Result.the-variants.{Err}
 use Rattle.wire.specs.Faults.{sectionFault, symbolFault}
 use Rattle.wire.specs.declared.order.ByteOrder.{ByteOrder}
 use Rattle.wire.specs.declared.refusal.Fault.{Fault}
@@ -101,28 +100,3 @@ sizedFile o total s = andThen (numberOr (sectionFault 11 128 (total - length s))
 -- The records of a section, or the first fault.
 abbrev pub symbolTables : ByteOrder → List ℕ → Result (List File) Fault
 symbolTables o s = run (sizedFile o (length s)) s
-
--- One of the values that a question answers with, by its number from 0: none past the last, and a fault as it is.
-abbrev pub oneOf : {V : Type 0} → ℕ → Result (Option (List V)) Fault → Result (Option V) Fault
-oneOf k (Ok None) = Ok None
-oneOf k (Ok (Some vs)) = Ok (nth vs k)
-oneOf k (Err f) = Err f
-
--- One of the symbols of a file, and one of its dex offsets, by its number from 0: none past the last.
-abbrev pub symbolAt : ℕ → Option File → Option Symbol
-symbolAt i None = None
-symbolAt i (Some f) = nth (f .symbols) i
-
-abbrev pub offsetsIn : Option Info → List ℕ
-offsetsIn (Some (dexFile offsets)) = offsets
-offsetsIn (Some (elfFile n)) = []
-offsetsIn (Some (kernelModule n)) = []
-offsetsIn None = []
-
-abbrev pub offsetAt : ℕ → Option File → Option ℕ
-offsetAt i None = None
-offsetAt i (Some f) = nth (offsetsIn (f .info)) i
-
-abbrev pub ofFile : {V : Type 0} → (Option File → Option V) → Result (Option File) Fault → Result (Option V) Fault
-ofFile part (Ok f) = Ok (part f)
-ofFile part (Err f) = Err f

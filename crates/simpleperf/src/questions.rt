@@ -2,7 +2,8 @@
 ghost use mathlib.Core.Path.{_≡_};
 ghost use Rattle.perf_data.specs.Questions.{question, answered};
 ghost use Rattle.simpleperf.specs.Answers.{fileOf, filesOf, symbolOf};
-ghost use Rattle.simpleperf.specs.Tables.{symbolTables, oneOf, ofFile, symbolAt, offsetAt};
+ghost use Rattle.simpleperf.specs.Numbered.{oneOf, ofFile, symbolAt, offsetAt};
+ghost use Rattle.simpleperf.specs.Tables.{symbolTables};
 use crate::dex::OffsetListIterator;
 use crate::file::SimpleperfFileRecord;
 use crate::info::SimpleperfTypeSpecificInfo;
@@ -20,7 +21,7 @@ pub fn symbol_tables<'a, S: Store<'a>>(store: &S) -> Result<Option<SymbolTables<
     ensures { λ r. ⌜ answered filesOf r ≡ question symbolTables (endian (now (store .entry))) (map (now (store .entry)) .at 128) ⌝ }
 {
     match store.section(SIMPLEPERF_FILE) {
-        None => Err(Refusal::NoListCount),
+        None => Ok(None),
         Some(section) => Ok(Some(read_tables(store.order(), section)?)),
     }
 }

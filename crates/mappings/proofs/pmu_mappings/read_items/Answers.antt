@@ -1,21 +1,16 @@
 use Prim.Native.Nat.{ℕ, _+_, _-_}
-use mathlib.Core.Path.{_≡_, sym, ap, subst, _∙_}
-use mathlib.Core.List.{List, [], _∷_, _++_, append-nil}
+use mathlib.Core.Path.{_≡_, sym, ap, _∙_}
+use mathlib.Core.List.{_++_, append-nil}
 use native.Mathlib.Omega.{arith}
 use lib.ListN.{length}
-use Rattle.std.specs.declared.result.Result.{Result}
+use Rattle.std.specs.Vec.{listOf}
 use Rattle.std.specs.declared.result.Result.the-variants.{Ok, Err}
 use Rattle.std.proofs.shelf.Results.{err-from-errBy}
-use Rattle.wire.specs.declared.refusal.Fault.{Fault}
 use Rattle.table.specs.Order.{numbers}
-use Rattle.table.specs.Fills.{Filled}
-use Rattle.table.specs.declared.fill.Fill.{Fill}
-use Rattle.table.specs.declared.row.Row.{Row}
 use Rattle.mappings.specs.PmuMappings.{nameRow, keyOf, items, itemsIn, givenBefore}
 use Rattle.mappings.proofs.Joins.{joined, fault-made, table-made}
-use Rattle.mappings.proofs.PmuItems.{items-next, items-none, item-shorter, given-some, given-none}
+use Rattle.mappings.proofs.PmuItems.{items-next, items-none, item-shorter, given-next}
 use Rattle.mappings.proofs.pmu_mappings.read_items.Needs as need
-use Rattle.mappings.proofs.pmu_mappings.read_items.Needs.{in-Some-row, in-rest-row}
 
 pub loop-k-again : need.loop-k-again
 loop-k-again c =
@@ -26,27 +21,14 @@ loop-k-again c =
     let left : ℕ = c .in-Some .count - c .loop-k .-k in
     let is = sym (c .in-Continue-item .ensures tt) in
     let less : left - 1 ≡ c .in-Some .count - (c .loop-k .-k + 1) = omega arith in
-    let rest : Result (List Row) Fault = itemsIn nameRow o total (c .in-Some .count - (c .loop-k .-k + 1)) (i .rest .now) in
-    let e : items nameRow o (c .args .section .now) ≡ joined so-far (givenBefore (i .row) rest) =
-    c .loop-k .inv .2 ∙ ap (joined so-far) (items-next nameRow o total left (c .loop-k .rest .now) _ (omega arith) is
-    ∙ ap (λ k. givenBefore (i .row) (itemsIn nameRow o total k (i .rest .now))) less) in
-    let short = item-shorter nameRow o _ (c .loop-k .rest .now) _ is in
-    let F : Fill → List Row → List Row → Type 0 = λ fill rows given. Filled numbers keyOf given fill rows in
-    elim (c .match-item .came) [
-      | in-Some-row w ↦ (
-        so-far ++ w .in-Some-row .row ∷ [],
-        subst (λ f. F f (c .match-item .rows) (so-far ++ w .in-Some-row .row ∷ [])) (sym (w .fill-is))
-            (subst (λ rs. F (w .add-fill .result) rs (so-far ++ w .in-Some-row .row ∷ [])) (sym (w .rows-is)) (w .add-fill .ensures so-far (c .loop-k .inv .1))),
-        e ∙ given-some so-far (w .in-Some-row .row) (i .row) rest (w .in-Some-row .is),
-        omega arith,
-      )
-      | in-rest-row w ↦ (
-        so-far,
-        subst (λ f. F f (c .match-item .rows) so-far) (sym (w .fill-is)) (subst (λ rs. F (c .loop-k .fill) rs so-far) (sym (w .rows-is)) (c .loop-k .inv .1)),
-        e ∙ given-none so-far (i .row) rest (w .in-rest-row .is),
-        omega arith,
-      )
-    ]
+    let short = item-shorter nameRow o _ (c .loop-k .rest .now) _ is in (
+      so-far ++ listOf (i .row),
+      c .put-fill .ensures so-far (c .loop-k .inv .1),
+      c .loop-k .inv .2
+          ∙ ap (joined so-far) (items-next nameRow o total left (c .loop-k .rest .now) _ (omega arith) is ∙ ap (λ k. givenBefore (i .row) (itemsIn nameRow o total k (i .rest .now))) less)
+          ∙ given-next so-far (i .row) (itemsIn nameRow o total (c .in-Some .count - (c .loop-k .-k + 1)) (i .rest .now)),
+      omega arith,
+    )
 
 pub returns-in-Break-item : need.returns-in-Break-item
 returns-in-Break-item c =

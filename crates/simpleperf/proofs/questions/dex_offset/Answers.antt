@@ -5,7 +5,7 @@ use Rattle.std.specs.Finite.{nth}
 use Rattle.std.proofs.shelf.Roads.{nth-from-ran}
 use Rattle.perf_data.specs.Questions.{mapped}
 use Rattle.simpleperf.specs.Answers.{fileOf, infoOf}
-use Rattle.simpleperf.specs.Tables.{ofFile, offsetsIn, offsetAt}
+use Rattle.simpleperf.specs.Numbered.{ofFile, offsetsIn, offsetAt}
 use Rattle.simpleperf.proofs.Views.{offsets-road, same}
 use Rattle.simpleperf.proofs.questions.dex_offset.Needs as need
 

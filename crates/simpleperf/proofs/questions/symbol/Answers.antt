@@ -3,7 +3,7 @@ use Rattle.std.specs.declared.result.Result.the-variants.{Ok}
 use Rattle.std.proofs.shelf.Roads.{nth-from-ran}
 use Rattle.perf_data.specs.Questions.{mapped}
 use Rattle.simpleperf.specs.Answers.{symbolOf, fileOf}
-use Rattle.simpleperf.specs.Tables.{ofFile, symbolAt}
+use Rattle.simpleperf.specs.Numbered.{ofFile, symbolAt}
 use Rattle.simpleperf.proofs.Views.{symbols-road, same}
 use Rattle.simpleperf.proofs.questions.symbol.Needs as need
 

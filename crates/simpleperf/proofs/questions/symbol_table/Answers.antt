@@ -3,7 +3,7 @@ use Rattle.std.specs.declared.result.Result.the-variants.{Ok}
 use Rattle.std.proofs.shelf.Roads.{nth-from-ran}
 use Rattle.perf_data.specs.Questions.{mapped}
 use Rattle.simpleperf.specs.Answers.{fileOf, filesOf}
-use Rattle.simpleperf.specs.Tables.{oneOf}
+use Rattle.simpleperf.specs.Numbered.{oneOf}
 use Rattle.simpleperf.proofs.Views.{files-road, same}
 use Rattle.simpleperf.proofs.questions.symbol_table.Needs as need
 

@@ -1,4 +1,4 @@
-use mathlib.Core.Path.{sym, ap, _∙_}
+use mathlib.Core.Path.{sym}
 use lib.ListN.{length}
 use Rattle.simpleperf.specs.Tables.{sizedFile}
 use Rattle.simpleperf.proofs.Runs.{run-read}
