@@ -38,6 +38,30 @@ def words(order, section):
     return found
 
 
+def pmu_names(order, section):
+    """A u32 count, and for each a u32 number and a header text."""
+    at, names = 4, {}
+    for _ in range(struct.unpack_from(order + "I", section)[0]):
+        number = struct.unpack_from(order + "I", section, at)[0]
+        names[number], at = header_text(order, section, at + 4)
+    return names
+
+
+# what 'perf buildid-list' prints of the sample, with the name that each program goes by
+BUILD_IDS = """db6f8d381dd5f673a9a1cbbfb2295f617368d91b [kernel.kallsyms] ([kernel.kallsyms])
+68798ba5321d76f976ab5c3b71007e3b4101ede5 [vdso] ([vdso])
+7ebc65e52f2bbea498b4040fa92f7238377aaba9 /usr/lib/x86_64-linux-gnu/ld-linux-x86-64.so.2 (ld-linux-x86-64.so.2)
+""".splitlines()
+
+
+def build_ids(order, section):
+    """The list above, each of whose ids and paths has to stand in the section."""
+    for line in BUILD_IDS:
+        ident, path, _ = line.split(" ")
+        assert bytes.fromhex(ident) in section and path.encode() + b"\0" in section, line
+    return f": {len(BUILD_IDS)} programs" + "".join("\n    " + line for line in BUILD_IDS)
+
+
 def fact(order, number, section, printed):
     """What stands behind a section's length, if anything."""
     if number in TEXTS:
@@ -56,6 +80,13 @@ def fact(order, number, section, printed):
         first, last = struct.unpack_from(order + "QQ", section)
         assert printed["time of first sample"] == f"{first // 10**9}.{first % 10**9 // 1000:06}", first
         return f": {first} ns to {last} ns"
+    if number == 2:
+        return build_ids(order, section)
+    if number == 16:
+        names = pmu_names(order, section)
+        said = dict(item.split(" = ") for item in printed["pmu mappings"].split(", "))
+        assert said == {name: str(n) for n, name in names.items()}, names
+        return f": {len(names)} names" + "".join(f"\n    {names[n]} = {n}" for n in sorted(names))
     if number == 11:
         found = words(order, section)
         assert printed["cmdline"].split() == found, found

@@ -3,6 +3,7 @@
 mod numbers;
 mod printable;
 mod refused;
+mod tables;
 
 use fixed_facts::perf_file::clock_data;
 use fixed_facts::perf_file::clock_frequency;
@@ -39,6 +40,10 @@ use refused::print_fault;
 use refused::print_refusal;
 use std::io;
 use std::io::Read;
+use tables::print_builds;
+use tables::print_meta;
+use tables::print_pmus;
+use tables::print_symbols;
 use wire::order::ByteOrder;
 use wire::refusal::Refusal;
 
@@ -96,8 +101,14 @@ fn print_words(
 }
 
 // What a section says, behind its length.
-fn print_fact<'a, S: Store<'a>>(rt: &LibcRuntime, store: &S, feature: Feature) -> io::Result<()> {
+fn print_fact<'a, S: Store<'a>>(
+    rt: &LibcRuntime,
+    store: &S,
+    feature: Feature,
+    section: &[u8],
+) -> io::Result<()> {
     match feature {
+        Feature::BUILD_ID => print_builds(rt, store, section),
         Feature::HOSTNAME => print_text(rt, hostname(store)),
         Feature::OSRELEASE => print_text(rt, os_release(store)),
         Feature::VERSION => print_text(rt, perf_version(store)),
@@ -107,6 +118,9 @@ fn print_fact<'a, S: Store<'a>>(rt: &LibcRuntime, store: &S, feature: Feature) -
         Feature::NRCPUS => print_cpus(rt, nr_cpus(store)),
         Feature::TOTAL_MEM => print_memory(rt, total_mem(store)),
         Feature::CMDLINE => print_words(rt, cmdline(store)),
+        Feature::PMU_MAPPINGS => print_pmus(rt, store, section.len()),
+        Feature::SIMPLEPERF_FILE => print_symbols(rt, store),
+        Feature::SIMPLEPERF_META_INFO => print_meta(rt, store, section.len()),
         Feature::STAT => print_stats(rt, is_stats(store)),
         Feature::SAMPLE_TIME => print_times(rt, sample_time_range(store)),
         Feature::CLOCKID => print_frequency(rt, clock_frequency(store)),
@@ -120,18 +134,19 @@ fn print_section<'a, S: Store<'a>>(
     rt: &LibcRuntime,
     store: &S,
     feature: Feature,
-    len: usize,
+    section: &[u8],
 ) -> io::Result<()> {
     let number = feature.0;
+    let len = section.len();
     let name = feature.name().unwrap_or("unknown");
     print!(rt, "{number:>3} {name} ({len} bytes)")?;
-    print_fact(rt, store, feature)
+    print_fact(rt, store, feature, section)
 }
 
 fn print_store<'a, S: Store<'a>>(rt: &LibcRuntime, store: &S) -> io::Result<()> {
     for number in 0..256u32 {
         if let Some(section) = section_of(store, number) {
-            print_section(rt, store, Feature(number), section.bytes.len())?;
+            print_section(rt, store, Feature(number), section.bytes)?;
         }
     }
     Ok(())
