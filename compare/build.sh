@@ -3,8 +3,8 @@
 #
 #     compare/build.sh FOLDER OUT
 #
-# FOLDER holds them as src--src--NAME.rs.txt. They are copied into OUT, beside our stand-ins for those modules that
-# are not at hand, and nothing of them is kept here. Needs rustc 1.70 or later and these packages of Debian:
+# FOLDER holds the files of its src/, each under a name that ends in NAME.rs or NAME.rs.txt. They are copied into OUT,
+# beside our stand-ins for those modules that are not at hand, and nothing of them is kept here. Needs rustc 1.70 or later and these packages of Debian:
 #     librust-byteorder-dev librust-memchr-dev librust-linear-map-dev librust-thiserror-dev librust-prost-dev
 #     librust-linux-perf-event-reader-dev
 set -eu
@@ -27,7 +27,12 @@ cp -r "$here/rust/reader" "$out/crate/reader"
 for name in build_id_event dso_info dso_key error feature_sections features perf_file record section simpleperf \
     thread_map
 do
-    cp "$folder/src--src--$name.rs.txt" "$out/crate/src/$name.rs"
+    found=$(find "$folder" -maxdepth 1 -type f | grep -E "(/|[^a-z_])$name\.rs(\.txt)?\$" | head -n 1)
+    if [ -z "$found" ]; then
+        echo "compare/build.sh: no $name.rs in $folder" >&2
+        exit 1
+    fi
+    cp "$found" "$out/crate/src/$name.rs"
 done
 
 # Debian's packages are the only registry, so that the build needs no network.
