@@ -1,6 +1,9 @@
 // A store of one section: for programs that read the sections of one feature, and a kind of store of its own.
 ghost use mathlib.Core.Path.{_≡_};
-ghost use Rattle.section_store.specs.Sections.{featuresIn, featuresOf};
+ghost use Rattle.image.specs.Ask.{inOrder, answer};
+ghost use Rattle.section_store.specs.Sections.{featuresIn, featuresOf, sectionOf};
+use image::ask::Section;
+use image::ask::section_of;
 use image::store::Store;
 use wire::order::ByteOrder;
 
@@ -46,4 +49,11 @@ pub impl<'a> Store<'a> for SectionStore<'a> as SectionStoreStore {
         }
         Some(self.bytes)
     }
+}
+
+// What a store of these bytes answers for a number, through the code that every kind of store is asked by.
+pub fn section_in(order: ByteOrder, feature: u32, bytes: &[u8], number: u32) -> Option<Section<'_>>
+    ensures { λ r. ⌜ answer r ≡ inOrder order (sectionOf feature (now (bytes .entry)) number) ⌝ }
+{
+    section_of(&SectionStore::new(order, feature, bytes), number)
 }
