@@ -1,4 +1,6 @@
 // Answers one question about a feature section, in text. A question is QUESTION ORDER ROWS SECTION, as docs/ASK.md has it.
+#![tactic(auto)]
+
 ghost use Rattle.std.specs.Prelude.{◌≡◌, IfOk, vec_len};
 
 mod common;

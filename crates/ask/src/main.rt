@@ -1,4 +1,6 @@
 // Answers one question a line about a feature section. A line is QUESTION ORDER ROWS SECTION, as docs/ASK.md has it.
+#![tactic(auto)]
+
 mod facts;
 mod line;
 mod names;

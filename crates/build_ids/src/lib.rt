@@ -1,4 +1,6 @@
 // The build ids of a recording: which build of each file it saw.
+#![tactic(auto)]
+
 pub mod build_id_event;
 pub mod builds;
 pub mod perf_file;

@@ -3,6 +3,8 @@
 //   name MISC ROOM xPATH: the name, written into a buffer of so many bytes aa
 //   section ORDER ROWS xBYTES: the table of a section of build ids, in so many rows
 //   absent ORDER ROWS x: the same of a store that has no such section
+#![tactic(auto)]
+
 mod alone;
 
 use crate::alone::Alone;

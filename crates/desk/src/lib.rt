@@ -1,4 +1,6 @@
 // A shelf behind lines of text: what the program intake does with each.
+#![tactic(auto)]
+
 pub mod answer;
 pub mod desk;
 pub mod lines;

@@ -1,3 +1,5 @@
 // The head of a store: one settled byte form of its facts.
+#![tactic(auto)]
+
 pub mod head;
 pub mod image;

@@ -2,6 +2,8 @@
 // are, and an x with the image's bytes in hexadecimal. Answers each with a line: the head, or the refusal. The rows come in
 // dirty and the room filled; ` touched` stands behind an answer where a row is not blank then, or a byte of the room that is
 // not the head's has changed.
+#![tactic(auto)]
+
 use anyhow::anyhow;
 use head::image::write_image_head;
 use hexadecimal::{Hex, decode};

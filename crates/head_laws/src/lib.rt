@@ -1,4 +1,6 @@
 // What heads are good for, and what the definitions say of some bytes: each as what a function ensures.
+#![tactic(auto)]
+
 ghost use Rattle.facts.specs.Laws.{HeadsSpeak};
 ghost use Rattle.head_laws.specs.Examples.{Examples};
 

@@ -1,4 +1,6 @@
 // Bytes in lower-case hexadecimal, two digits a byte: how the programs of this repository take and give them in lines.
+#![tactic(auto)]
+
 ghost use Rattle.std.specs.Prelude.{◌≡◌, length, IfOk};
 ghost use Rattle.hexadecimal.specs.Hex.{digit_of, bytes_of, items};
 

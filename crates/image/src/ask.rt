@@ -23,7 +23,7 @@ pub struct Section<'a> {
 
 // The section of a feature, if the store has one.
 pub fn section_of<'a, S: Store<'a>>(store: &S, number: u32) -> Option<Section<'a>>
-    ensures { answer result ≡ in_order (endian store.now) ((map store.now).at number) }
+    ensures { answer result ≡ in_order (S.endian store.now) ((S.map store.now).at number) }
 {
     match store.section(number) {
         None => None,

@@ -1,4 +1,6 @@
 // Section stores over the bytes of an image: perf.data files, recordings through a pipe, and heads.
+#![tactic(auto)]
+
 pub mod ask;
 mod at;
 pub mod file;

@@ -1,5 +1,7 @@
 // Opens the images that standard input lists, one a line: a kind (any, file, pipe or head), a space, and an x with the
 // image's bytes in hexadecimal. Answers each with a line: its byte order and its sections, or the refusal.
+#![tactic(auto)]
+
 use anyhow::anyhow;
 use hexadecimal::{Hex, decode};
 use image::ask::section_of;

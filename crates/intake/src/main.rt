@@ -1,4 +1,6 @@
 // Keeps a shelf and answers a request a line, each at once: it stands behind a pipe all year. docs/SHELF.md has the lines.
+#![tactic(auto)]
+
 use desk::answer::{answer, open};
 use desk::desk::{Desk, USUAL};
 use desk::lines::Lines;

@@ -2,6 +2,8 @@
 // store that lacks the section), the byte order, how many rows there are, and an x with the section's bytes in hexadecimal.
 // Answers each with a line: absent, the refusal, or the rows that are used and what they stand for. The rows come in dirty,
 // and those past the answer have to be blank.
+#![tactic(auto)]
+
 use anyhow::anyhow;
 use hexadecimal::{Hex, decode};
 use mappings::meta_info::{meta_entry, meta_info};

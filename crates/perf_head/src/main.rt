@@ -1,5 +1,7 @@
 // Writes the head of a recording: the same bytes for the same facts, whatever the recording's container, byte order, padding
 // or repeated keys.
+#![tactic(auto)]
+
 use head::image::write_image_head;
 use std::io;
 use std::io::{Read, Write};

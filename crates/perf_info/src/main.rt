@@ -1,5 +1,7 @@
 // Tells what a recording holds: its kind, its byte order and its feature sections, with the facts that are known how to
 // read; or where it is refused.
+#![tactic(auto)]
+
 mod numbers;
 mod printable;
 mod refused;

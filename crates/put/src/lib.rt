@@ -1,5 +1,7 @@
 // Writing into a lent buffer. What falls outside it is not written, and only counted: with no buffer at all, a writer
 // counts its bytes.
+#![tactic(auto)]
+
 ghost use Rattle.std.specs.Prelude.{◌≡◌, ◌+◌, length};
 ghost use Rattle.put.specs.Overlay.{overlay, place};
 ghost use Rattle.wire.specs.Numbers.{bytes_of};

@@ -1,4 +1,6 @@
 // The carried facts of a store, written as a head has them.
+#![tactic(auto)]
+
 pub mod fact;
 mod files;
 mod items;

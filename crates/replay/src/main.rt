@@ -1,5 +1,7 @@
 // Asks this library the questions that the Rust crate was asked, and counts the answers that are equal to the Rust's. A
 // line of its input is a question, a tab and the Rust's answer (compare/README.md).
+#![tactic(auto)]
+
 mod tally;
 mod verdict;
 

@@ -1,4 +1,6 @@
 // A store of one section: for programs that read the sections of one feature, and a kind of store of its own.
+#![tactic(auto)]
+
 ghost use Rattle.std.specs.Prelude.{◌≡◌};
 ghost use Rattle.image.specs.Ask.{in_order, answer};
 ghost use Rattle.section_store.specs.Sections.{features_in, features_of, section_of};

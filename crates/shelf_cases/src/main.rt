@@ -1,4 +1,6 @@
 // Requests as those of intake, over one shelf after another: here every `open` makes a new one.
+#![tactic(auto)]
+
 use desk::answer::{answer, open};
 use desk::desk::{Desk, USUAL};
 use desk::lines::Lines;

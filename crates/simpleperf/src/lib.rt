@@ -1,4 +1,6 @@
 // What the sections of simpleperf recordings say: files with their symbols.
+#![tactic(auto)]
+
 pub mod dex;
 pub mod file;
 pub mod info;

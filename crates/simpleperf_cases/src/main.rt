@@ -1,5 +1,7 @@
 // Reads the symbol tables that standard input lists, one section a line: a byte order (little or big), a space, and an x
 // with the section's bytes in hexadecimal. Answers each with a line: its records, or the refusal.
+#![tactic(auto)]
+
 mod single;
 
 use anyhow::anyhow;

@@ -1,4 +1,6 @@
 // The files with their symbols, in a head: what was read of a section is read again.
+#![tactic(auto)]
+
 ghost use Rattle.std.specs.List.{flat_map};
 ghost use Rattle.facts.specs.Laws.{ReadsBack};
 ghost use Rattle.facts.specs.Written.{sized_bytes};

@@ -1,5 +1,7 @@
 // Reads texts from standard input, a line of hexadecimal for each, and prints whether the text is well formed, with its
 // shown form in hexadecimal.
+#![tactic(auto)]
+
 ghost use Rattle.std.specs.Prelude.{◌≡◌, IfOk, if◌then◌else◌, codes};
 ghost use Rattle.text.specs.Pieces.{shown as shown_form, well_formed};
 

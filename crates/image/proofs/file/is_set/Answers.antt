@@ -5,4 +5,4 @@ use Rattle.image.proofs.file.is_set.Goals as goal
 pub returns : goal.returns
 returns c =
     let shift : ℕ = c.args.n % 64 in
-    ap (λ (x : ℕ). eqb x 1) (and_mask (c.u64-at-word.result / 2 ^ shift) 1) ∙ ap (λ (x : ℕ). eqb (x / 2 ^ shift % 2) 1) c.u64-at-word.ensures
+    ap (λ (x : ℕ). eqb x 1) (and_mask (c.u64_at-word.result / 2 ^ shift) 1) ∙ ap (λ (x : ℕ). eqb (x / 2 ^ shift % 2) 1) c.u64_at-word.ensures
