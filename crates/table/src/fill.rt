@@ -17,7 +17,7 @@ pub enum Fill {
 
 // `add` where the rows did not run out before. No more are used than there are, whatever the caller says.
 fn insert<K: Kind>(kind: &K, rows: &mut [Row], used: usize, row: Row) -> Fill
-    ensures { (given : List Rows) → Filled order (key kind.now) given (Fill.Used used) rows.old → Filled order (key kind.now) (given ++ row ∷ []) result rows.new }
+    ensures { (given : List Rows) → Filled K.order (K.key kind.now) given (Fill.Used used) rows.old → Filled K.order (K.key kind.now) (given ++ row ∷ []) result rows.new }
 {
     let used = rows.len().min(used);
     match place(kind, &rows[0..used], &row) {
@@ -49,7 +49,7 @@ impl Fill {
     // Puts one more row into the table of those given before; a row with the same key gives way to it. Where it is one row
     // too many, all are blanked, and no further row is put there.
     pub fn add<K: Kind>(self, kind: &K, rows: &mut [Row], row: Row) -> Fill
-        ensures { (given : List Rows) → Filled order (key kind.now) given self rows.old → Filled order (key kind.now) (given ++ row ∷ []) result rows.new }
+        ensures { (given : List Rows) → Filled K.order (K.key kind.now) given self rows.old → Filled K.order (K.key kind.now) (given ++ row ∷ []) result rows.new }
     {
         match self {
             Fill::Used(used) => insert(kind, rows, used, row),

@@ -9,14 +9,14 @@ use crate::kind::Kind;
 // table's own rows are that table again; more rows given make no fewer rows; and the keys and values of a table's rows are
 // the table of the keys and values given, wherever in a section they lie.
 pub fn tables_stand<K: Kind>(kind: &K, section: &[u8])
-    ensures stays { StaysRising order (key kind.now) }
-    ensures sets { Sets order (key kind.now) }
-    ensures rises { Rises order (key kind.now) }
-    ensures stands { LastStands order (key kind.now) }
-    ensures determined { Determined order (key kind.now) }
-    ensures again { Again order (key kind.now) }
-    ensures grows { Grows order (key kind.now) }
-    ensures entries { Carries order (key kind.now) (λ e. e.0) (entry_of (key kind.now) section.now) }
+    ensures stays { StaysRising K.order (K.key kind.now) }
+    ensures sets { Sets K.order (K.key kind.now) }
+    ensures rises { Rises K.order (K.key kind.now) }
+    ensures stands { LastStands K.order (K.key kind.now) }
+    ensures determined { Determined K.order (K.key kind.now) }
+    ensures again { Again K.order (K.key kind.now) }
+    ensures grows { Grows K.order (K.key kind.now) }
+    ensures entries { Carries K.order (K.key kind.now) (λ e. e.0) (entry_of (K.key kind.now) section.now) }
 {}
 
 // What the orders of numbers and of texts are. Each is total, so that the other cases follow.

@@ -10,7 +10,7 @@ use std::cmp::Ordering;
 // tried first: rows that come in order then cost one comparison each.
 pub(crate) fn place<K: Kind>(kind: &K, rows: &[Row], row: &Row) -> Result<usize, usize>
     ensures within { Within result (length rows.now) }
-    ensures is { Rising order (key kind.now) rows.now → result ≡ placed order (key kind.now) rows.now row.now }
+    ensures is { Rising K.order (K.key kind.now) rows.now → result ≡ placed K.order (K.key kind.now) rows.now row.now }
 {
     let n = rows.len();
     if n > 0 {
@@ -23,7 +23,7 @@ pub(crate) fn place<K: Kind>(kind: &K, rows: &[Row], row: &Row) -> Result<usize,
 
 fn place_by_halves<K: Kind>(kind: &K, rows: &[Row], row: &Row) -> Result<usize, usize>
     ensures within { Within result (length rows.now) }
-    ensures is { Rising order (key kind.now) rows.now → result ≡ placed order (key kind.now) rows.now row.now }
+    ensures is { Rising K.order (K.key kind.now) rows.now → result ≡ placed K.order (K.key kind.now) rows.now row.now }
 {
     let mut low = 0;
     let mut high = rows.len();
