@@ -54,8 +54,8 @@ fn tabulate(order: ByteOrder, section: &[u8], rows: &mut [Row]) -> Option<usize>
 }
 
 fn read<'a, S: Store<'a>>(store: &S, rows: &mut [Row]) -> Result<Option<usize>, Refusal>
-    ensures is { result ≡ answer (length rows.old) (endian store.now) ((map store.now).at 2) }
-    ensures after { rows.new ≡ left (length rows.old) (endian store.now) ((map store.now).at 2) }
+    ensures is { result ≡ answer (length rows.old) (S.endian store.now) ((S.map store.now).at 2) }
+    ensures after { rows.new ≡ left (length rows.old) (S.endian store.now) ((S.map store.now).at 2) }
 {
     let Some(section) = store.section(BUILD_ID) else {
         blank_all(rows);
@@ -70,9 +70,9 @@ fn read<'a, S: Store<'a>>(store: &S, rows: &mut [Row]) -> Result<Option<usize>, 
 // The table of a store's build ids in the first of the rows, and how many it uses: each row stands for a key with the path
 // and the id that were last given with it, and what the rows stand for is what the section means.
 pub fn build_ids<'a, S: Store<'a>>(store: &S, rows: &mut [Row]) -> Result<Option<usize>, Refusal>
-    ensures is { result ≡ answer (length rows.old) (endian store.now) ((map store.now).at 2) }
-    ensures after { rows.new ≡ left (length rows.old) (endian store.now) ((map store.now).at 2) }
-    ensures entries { entries_in (endian store.now) ((map store.now).at 2) ≡ question build_ids (endian store.now) ((map store.now).at 2) }
+    ensures is { result ≡ answer (length rows.old) (S.endian store.now) ((S.map store.now).at 2) }
+    ensures after { rows.new ≡ left (length rows.old) (S.endian store.now) ((S.map store.now).at 2) }
+    ensures entries { entries_in (S.endian store.now) ((S.map store.now).at 2) ≡ question build_ids (S.endian store.now) ((S.map store.now).at 2) }
 {
     read(store, rows)
 }

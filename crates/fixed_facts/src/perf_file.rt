@@ -22,7 +22,7 @@ fn front(bytes: &[u8], size: usize) -> &[u8]
 
 // Of a section that is a fact of a fixed length. Further bytes are ignored.
 fn fixed_fact<'a, F: FixedFact, S: Store<'a>>(store: &S) -> Result<Option<F>, Refusal>
-    ensures { answered (λ x. x) result ≡ question (of_first F.FixedFact.size F.FixedFact.read) (endian store.now) ((map store.now).at F.FixedFact.number) }
+    ensures { answered (λ x. x) result ≡ question (of_first F.FixedFact.size F.FixedFact.read) (S.endian store.now) ((S.map store.now).at F.FixedFact.number) }
 {
     let layout = F::layout();
     match store.section(layout.feature) {
@@ -32,44 +32,44 @@ fn fixed_fact<'a, F: FixedFact, S: Store<'a>>(store: &S) -> Result<Option<F>, Re
 }
 
 pub fn nr_cpus<'a, S: Store<'a>>(store: &S) -> Result<Option<NrCpus>, Refusal>
-    ensures { answered (λ x. x) result ≡ question (of_first 8 nr_cpus) (endian store.now) ((map store.now).at 7) }
+    ensures { answered (λ x. x) result ≡ question (of_first 8 nr_cpus) (S.endian store.now) ((S.map store.now).at 7) }
 {
     fixed_fact(store)
 }
 
 pub fn total_mem<'a, S: Store<'a>>(store: &S) -> Result<Option<TotalMem>, Refusal>
-    ensures { answered (λ x. x) result ≡ question (of_first 8 total_mem) (endian store.now) ((map store.now).at 10) }
+    ensures { answered (λ x. x) result ≡ question (of_first 8 total_mem) (S.endian store.now) ((S.map store.now).at 10) }
 {
     fixed_fact(store)
 }
 
 pub fn sample_time_range<'a, S: Store<'a>>(store: &S) -> Result<Option<SampleTimeRange>, Refusal>
-    ensures { answered (λ x. x) result ≡ question (of_first 16 sample_time_range) (endian store.now) ((map store.now).at 21) }
+    ensures { answered (λ x. x) result ≡ question (of_first 16 sample_time_range) (S.endian store.now) ((S.map store.now).at 21) }
 {
     fixed_fact(store)
 }
 
 pub fn clock_frequency<'a, S: Store<'a>>(store: &S) -> Result<Option<ClockFrequency>, Refusal>
-    ensures { answered (λ x. x) result ≡ question (of_first 8 clock_frequency) (endian store.now) ((map store.now).at 23) }
+    ensures { answered (λ x. x) result ≡ question (of_first 8 clock_frequency) (S.endian store.now) ((S.map store.now).at 23) }
 {
     fixed_fact(store)
 }
 
 pub fn compression_info<'a, S: Store<'a>>(store: &S) -> Result<Option<CompressionInfo>, Refusal>
-    ensures { answered (λ x. x) result ≡ question (of_first 20 compression_info) (endian store.now) ((map store.now).at 27) }
+    ensures { answered (λ x. x) result ≡ question (of_first 20 compression_info) (S.endian store.now) ((S.map store.now).at 27) }
 {
     fixed_fact(store)
 }
 
 pub fn clock_data<'a, S: Store<'a>>(store: &S) -> Result<Option<ClockData>, Refusal>
-    ensures { answered (λ x. x) result ≡ question (of_first 24 clock_data) (endian store.now) ((map store.now).at 29) }
+    ensures { answered (λ x. x) result ≡ question (of_first 24 clock_data) (S.endian store.now) ((S.map store.now).at 29) }
 {
     fixed_fact(store)
 }
 
 // Whether the recording is of `perf stat`, which leaves a section that says no more.
 pub fn is_stats<'a, S: Store<'a>>(store: &S) -> bool
-    ensures { result ≡ is_some ((map store.now).at 19) }
+    ensures { result ≡ is_some ((S.map store.now).at 19) }
 {
     store.section(19).is_some()
 }

@@ -49,7 +49,7 @@ fn write_entry<'a, S: Store<'a>>(
     at: usize,
 ) -> Result<usize, Refusal>
     requires { at < 2 ^ 39 }
-    ensures wrote { Wrote (entry feature (answer_of (length rows.old) (endian store.now) (map store.now).at feature)) «at» out.old result out.new }
+    ensures wrote { Wrote (entry feature (answer_of (length rows.old) (S.endian store.now) (S.map store.now).at feature)) «at» out.old result out.new }
     ensures short { IfOk result (λ n. n ≤ «at» + 4294967302) }
 {
     let Some(end) = put_fact(store, feature, rows, out, at + 6)? else {
@@ -70,7 +70,7 @@ fn write_entries<'a, S: Store<'a>>(
 ) -> Result<usize, Refusal>
     requires few { length features.now ≤ 15 }
     requires low { at ≤ 16 }
-    ensures { Wrote (entries (answer_of (length rows.old) (endian store.now) (map store.now).at) features.now) «at» out.old result out.new }
+    ensures { Wrote (entries (answer_of (length rows.old) (S.endian store.now) (S.map store.now).at) features.now) «at» out.old result out.new }
 {
     let mut end = at;
     for feature in features {
@@ -85,7 +85,7 @@ fn write_whole<'a, S: Store<'a>>(
     rows: &mut [Row],
     out: &mut [u8],
 ) -> Result<usize, Refusal>
-    ensures { Wrote (head_of (length rows.old) (endian store.now) (map store.now).at) 0 out.old result out.new }
+    ensures { Wrote (head_of (length rows.old) (S.endian store.now) (S.map store.now).at) 0 out.old result out.new }
 {
     if store.section(SIMPLEPERF_FILE2).is_some() {
         return Err(Refusal::SecondFormatPresent);
@@ -100,8 +100,8 @@ fn write_fitting<'a, S: Store<'a>>(
     rows: &mut [Row],
     out: &mut [u8],
 ) -> Result<usize, Refusal>
-    ensures answer { outcome result ≡ length_of (fitted (length out.old) (head_of (length rows.old) (endian store.now) (map store.now).at)) }
-    ensures after { out.new ≡ ahead (fitted (length out.old) (head_of (length rows.old) (endian store.now) (map store.now).at)) out.old }
+    ensures answer { outcome result ≡ length_of (fitted (length out.old) (head_of (length rows.old) (S.endian store.now) (S.map store.now).at)) }
+    ensures after { out.new ≡ ahead (fitted (length out.old) (head_of (length rows.old) (S.endian store.now) (S.map store.now).at)) out.old }
 {
     let len = write_whole(store, rows, &mut [])?;
     if len > out.len().min(MOST) {
@@ -117,11 +117,11 @@ pub fn write_head<'a, S: Store<'a>>(
     rows: &mut [Row],
     out: &mut [u8],
 ) -> Result<usize, Refusal>
-    ensures answer { outcome result ≡ length_of (fitted (length out.old) (head_of (length rows.old) (endian store.now) (map store.now).at)) }
-    ensures after { out.new ≡ ahead (fitted (length out.old) (head_of (length rows.old) (endian store.now) (map store.now).at)) out.old }
+    ensures answer { outcome result ≡ length_of (fitted (length out.old) (head_of (length rows.old) (S.endian store.now) (S.map store.now).at)) }
+    ensures after { out.new ≡ ahead (fitted (length out.old) (head_of (length rows.old) (S.endian store.now) (S.map store.now).at)) out.old }
     ensures rows { rows.new ≡ blanks (length rows.old) }
     ensures room { IfOk result (λ n. n ≤ length out.old) }
-    ensures law { Spoken (length rows.old) (endian store.now) (map store.now) result out.new }
+    ensures law { Spoken (length rows.old) (S.endian store.now) (S.map store.now) result out.new }
 {
     let written = write_fitting(store, rows, out);
     blank_all(rows);

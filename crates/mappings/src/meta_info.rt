@@ -95,9 +95,9 @@ fn read_info(section: &[u8], rows: &mut [Row]) -> Result<usize, Refusal>
 // The keys with their values by rising keys, in the first rows; the others are blank. Where a key is given again, the later
 // value stands. All rows are blank where there is no section, after a fault, and where the keys are more than the rows.
 pub fn meta_info<'a, S: Store<'a>>(store: &S, rows: &mut [Row]) -> Result<Option<usize>, Refusal>
-    ensures answer { answered (λ n. n) result ≡ question (λ o s. counted (within 129 (length rows.old) (meta_info o s))) (endian store.now) ((map store.now).at 129) }
-    ensures after { rows.new ≡ laid_for (length rows.old) (question (λ _ s. meta_rows s) (endian store.now) ((map store.now).at 129)) }
-    ensures entries { answered (entries_in (key_part (bytes_in ((map store.now).at 129))) (bytes_in ((map store.now).at 129)) rows.new) result ≡ question (λ o s. within 129 (length rows.old) (meta_info o s)) (endian store.now) ((map store.now).at 129) }
+    ensures answer { answered (λ n. n) result ≡ question (λ o s. counted (within 129 (length rows.old) (meta_info o s))) (S.endian store.now) ((S.map store.now).at 129) }
+    ensures after { rows.new ≡ laid_for (length rows.old) (question (λ _ s. meta_rows s) (S.endian store.now) ((S.map store.now).at 129)) }
+    ensures entries { answered (entries_in (key_part (bytes_in ((S.map store.now).at 129))) (bytes_in ((S.map store.now).at 129)) rows.new) result ≡ question (λ o s. within 129 (length rows.old) (meta_info o s)) (S.endian store.now) ((S.map store.now).at 129) }
 {
     let Some(section) = store.section(META_INFO) else {
         blank_all(rows);
@@ -108,7 +108,7 @@ pub fn meta_info<'a, S: Store<'a>>(store: &S, rows: &mut [Row]) -> Result<Option
 
 // The entry that a row stands for; none where the store has no such section. Key and value are parts of the section.
 pub fn meta_entry<'a, S: Store<'a>>(store: &S, row: &Row) -> Option<MetaEntry<'a>>
-    ensures { mapped of_meta result ≡ mapped (λ s. entry_of (key_part s) s row.now) ((map store.now).at 129) }
+    ensures { mapped of_meta result ≡ mapped (λ s. entry_of (key_part s) s row.now) ((S.map store.now).at 129) }
 {
     let section = store.section(META_INFO)?;
     Some(MetaEntry {

@@ -129,9 +129,9 @@ fn read_names(order: ByteOrder, section: &[u8], rows: &mut [Row]) -> Result<usiz
 // The names by rising numbers, in the first rows; the others are blank. Where a number is given again, the later name
 // stands. All rows are blank where there is no section, after a fault, and where the names are more than the rows.
 pub fn pmu_mappings<'a, S: Store<'a>>(store: &S, rows: &mut [Row]) -> Result<Option<usize>, Refusal>
-    ensures answer { answered (λ n. n) result ≡ question (λ o s. counted (within 16 (length rows.old) (pmu_names o s))) (endian store.now) ((map store.now).at 16) }
-    ensures after { rows.new ≡ laid_for (length rows.old) (question pmu_rows (endian store.now) ((map store.now).at 16)) }
-    ensures entries { answered (entries_in key_of (bytes_in ((map store.now).at 16)) rows.new) result ≡ question (λ o s. within 16 (length rows.old) (pmu_names o s)) (endian store.now) ((map store.now).at 16) }
+    ensures answer { answered (λ n. n) result ≡ question (λ o s. counted (within 16 (length rows.old) (pmu_names o s))) (S.endian store.now) ((S.map store.now).at 16) }
+    ensures after { rows.new ≡ laid_for (length rows.old) (question pmu_rows (S.endian store.now) ((S.map store.now).at 16)) }
+    ensures entries { answered (entries_in key_of (bytes_in ((S.map store.now).at 16)) rows.new) result ≡ question (λ o s. within 16 (length rows.old) (pmu_names o s)) (S.endian store.now) ((S.map store.now).at 16) }
 {
     let Some(section) = store.section(PMU_MAPPINGS) else {
         blank_all(rows);
@@ -142,7 +142,7 @@ pub fn pmu_mappings<'a, S: Store<'a>>(store: &S, rows: &mut [Row]) -> Result<Opt
 
 // The entry that a row stands for; none where the store has no such section. The name is a part of the section.
 pub fn pmu_entry<'a, S: Store<'a>>(store: &S, row: &Row) -> Option<PmuEntry<'a>>
-    ensures { mapped of_pmu result ≡ mapped (λ s. entry_of key_of s row.now) ((map store.now).at 16) }
+    ensures { mapped of_pmu result ≡ mapped (λ s. entry_of key_of s row.now) ((S.map store.now).at 16) }
 {
     let section = store.section(PMU_MAPPINGS)?;
     Some(PmuEntry {

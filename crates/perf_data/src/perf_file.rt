@@ -15,7 +15,7 @@ pub fn feature_string<'a, S: Store<'a>>(
     store: &S,
     feature: Feature,
 ) -> Result<Option<&'a str>, Refusal>
-    ensures { answered (λ x. x.now) result ≡ question (feature_string feature.0) (endian store.now) ((map store.now).at feature.0) }
+    ensures { answered (λ x. x.now) result ≡ question (feature_string feature.0) (S.endian store.now) ((S.map store.now).at feature.0) }
 {
     let Some(section) = store.section(feature.0) else {
         return Ok(None);
@@ -28,49 +28,49 @@ pub fn feature_string<'a, S: Store<'a>>(
 
 // The name of the machine that the recording was made on.
 pub fn hostname<'a, S: Store<'a>>(store: &S) -> Result<Option<&'a str>, Refusal>
-    ensures { answered (λ x. x.now) result ≡ question (feature_string 3) (endian store.now) ((map store.now).at 3) }
+    ensures { answered (λ x. x.now) result ≡ question (feature_string 3) (S.endian store.now) ((S.map store.now).at 3) }
 {
     feature_string(store, Feature::HOSTNAME)
 }
 
 // The release of its operating system, as `uname -r` gives it.
 pub fn os_release<'a, S: Store<'a>>(store: &S) -> Result<Option<&'a str>, Refusal>
-    ensures { answered (λ x. x.now) result ≡ question (feature_string 4) (endian store.now) ((map store.now).at 4) }
+    ensures { answered (λ x. x.now) result ≡ question (feature_string 4) (S.endian store.now) ((S.map store.now).at 4) }
 {
     feature_string(store, Feature::OSRELEASE)
 }
 
 // The version of the perf tool that made the recording.
 pub fn perf_version<'a, S: Store<'a>>(store: &S) -> Result<Option<&'a str>, Refusal>
-    ensures { answered (λ x. x.now) result ≡ question (feature_string 5) (endian store.now) ((map store.now).at 5) }
+    ensures { answered (λ x. x.now) result ≡ question (feature_string 5) (S.endian store.now) ((S.map store.now).at 5) }
 {
     feature_string(store, Feature::VERSION)
 }
 
 // The architecture, as `uname -m` gives it.
 pub fn arch<'a, S: Store<'a>>(store: &S) -> Result<Option<&'a str>, Refusal>
-    ensures { answered (λ x. x.now) result ≡ question (feature_string 6) (endian store.now) ((map store.now).at 6) }
+    ensures { answered (λ x. x.now) result ≡ question (feature_string 6) (S.endian store.now) ((S.map store.now).at 6) }
 {
     feature_string(store, Feature::ARCH)
 }
 
 // The processor in words: on x86 its model name.
 pub fn cpu_desc<'a, S: Store<'a>>(store: &S) -> Result<Option<&'a str>, Refusal>
-    ensures { answered (λ x. x.now) result ≡ question (feature_string 8) (endian store.now) ((map store.now).at 8) }
+    ensures { answered (λ x. x.now) result ≡ question (feature_string 8) (S.endian store.now) ((S.map store.now).at 8) }
 {
     feature_string(store, Feature::CPUDESC)
 }
 
 // The exact processor: on x86 vendor, family, model and stepping.
 pub fn cpu_id<'a, S: Store<'a>>(store: &S) -> Result<Option<&'a str>, Refusal>
-    ensures { answered (λ x. x.now) result ≡ question (feature_string 9) (endian store.now) ((map store.now).at 9) }
+    ensures { answered (λ x. x.now) result ≡ question (feature_string 9) (S.endian store.now) ((S.map store.now).at 9) }
 {
     feature_string(store, Feature::CPUID)
 }
 
 // The words of the command that made the recording.
 pub fn cmdline<'a, S: Store<'a>>(store: &S) -> Result<Option<StringList<'a>>, Refusal>
-    ensures { answered to_come result ≡ question command_line (endian store.now) ((map store.now).at 11) }
+    ensures { answered to_come result ≡ question command_line (S.endian store.now) ((S.map store.now).at 11) }
 {
     match store.section(11) {
         None => Ok(None),

@@ -20,7 +20,7 @@ use wire::refusal::Refusal;
 
 // The section of `perf stat` says no more than that it is there.
 fn stat<'a, S: Store<'a>>(store: &S) -> Result<Option<Mark>, Refusal>
-    ensures { answered (λ _. []) result ≡ in_bytes (question (λ _ _. Fine mark) (endian store.now) ((map store.now).at 19)) }
+    ensures { answered (λ _. []) result ≡ in_bytes (question (λ _ _. Fine mark) (S.endian store.now) ((S.map store.now).at 19)) }
 {
     if is_stats(store) {
         Ok(Some(Mark))
@@ -34,7 +34,7 @@ fn put_files<'a, S: Store<'a>>(
     out: &mut [u8],
     at: usize,
 ) -> Result<Option<usize>, Refusal>
-    ensures { Writes (in_bytes (question (λ o s. fact_of files (symbol_tables o s)) (endian store.now) ((map store.now).at 128))) out.old «at» result out.new }
+    ensures { Writes (in_bytes (question (λ o s. fact_of files (symbol_tables o s)) (S.endian store.now) ((S.map store.now).at 128))) out.old «at» result out.new }
 {
     put_answer(symbol_tables(store), out, at)
 }
@@ -46,7 +46,7 @@ fn put_carried<'a, S: Store<'a>>(
     out: &mut [u8],
     at: usize,
 ) -> Result<Option<usize>, Refusal>
-    ensures writes { Writes (in_bytes (answer (length rows.old) (endian store.now) (map store.now).at feature)) out.old «at» result out.new }
+    ensures writes { Writes (in_bytes (answer (length rows.old) (S.endian store.now) (S.map store.now).at feature)) out.old «at» result out.new }
     ensures rows { rows.new ≡ rows_after feature rows.old }
 {
     match feature {
@@ -80,8 +80,8 @@ pub fn put_fact<'a, S: Store<'a>>(
     out: &mut [u8],
     at: usize,
 ) -> Result<Option<usize>, Refusal>
-    ensures place { outcome result ≡ placed «at» (answer (length rows.old) (endian store.now) (map store.now).at feature) }
-    ensures after { out.new ≡ overlaid «at» (answer (length rows.old) (endian store.now) (map store.now).at feature) out.old }
+    ensures place { outcome result ≡ placed «at» (answer (length rows.old) (S.endian store.now) (S.map store.now).at feature) }
+    ensures after { out.new ≡ overlaid «at» (answer (length rows.old) (S.endian store.now) (S.map store.now).at feature) out.old }
     ensures rows { rows.new ≡ rows_after feature rows.old }
 {
     put_carried(store, feature, rows, out, at)

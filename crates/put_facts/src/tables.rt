@@ -28,7 +28,7 @@ const META_INFO: u32 = 129;
 
 // The bytes of a section; none where there is no section.
 fn section_bytes<'a, S: Store<'a>>(store: &S, feature: u32) -> &'a [u8]
-    ensures { result.now ≡ bytes_in ((map store.now).at feature) }
+    ensures { result.now ≡ bytes_in ((S.map store.now).at feature) }
 {
     store.section(feature).unwrap_or(&[])
 }
@@ -39,7 +39,7 @@ pub(crate) fn put_builds<'a, S: Store<'a>>(
     out: &mut [u8],
     at: usize,
 ) -> Result<Option<usize>, Refusal>
-    ensures writes { Writes (in_bytes (question (λ o s. fact_of builds (within 2 (length rows.old) (build_ids o s))) (endian store.now) ((map store.now).at 2))) out.old «at» result out.new }
+    ensures writes { Writes (in_bytes (question (λ o s. fact_of builds (within 2 (length rows.old) (build_ids o s))) (S.endian store.now) ((S.map store.now).at 2))) out.old «at» result out.new }
     ensures blank { rows.new ≡ blanks (length rows.old) }
 {
     let used = build_ids(store, rows);
@@ -55,7 +55,7 @@ pub(crate) fn put_names<'a, S: Store<'a>>(
     out: &mut [u8],
     at: usize,
 ) -> Result<Option<usize>, Refusal>
-    ensures writes { Writes (in_bytes (question (λ o s. fact_of names (within 16 (length rows.old) (pmu_names o s))) (endian store.now) ((map store.now).at 16))) out.old «at» result out.new }
+    ensures writes { Writes (in_bytes (question (λ o s. fact_of names (within 16 (length rows.old) (pmu_names o s))) (S.endian store.now) ((S.map store.now).at 16))) out.old «at» result out.new }
     ensures blank { rows.new ≡ blanks (length rows.old) }
 {
     let used = pmu_mappings(store, rows);
@@ -71,7 +71,7 @@ pub(crate) fn put_pairs<'a, S: Store<'a>>(
     out: &mut [u8],
     at: usize,
 ) -> Result<Option<usize>, Refusal>
-    ensures writes { Writes (in_bytes (question (λ o s. fact_of pairs (within 129 (length rows.old) (meta_info o s))) (endian store.now) ((map store.now).at 129))) out.old «at» result out.new }
+    ensures writes { Writes (in_bytes (question (λ o s. fact_of pairs (within 129 (length rows.old) (meta_info o s))) (S.endian store.now) ((S.map store.now).at 129))) out.old «at» result out.new }
     ensures blank { rows.new ≡ blanks (length rows.old) }
 {
     let used = meta_info(store, rows);

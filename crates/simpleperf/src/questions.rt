@@ -14,7 +14,7 @@ use wire::refusal::Refusal;
 
 // The files that the recording saw, with their symbols. A fault anywhere in the section is the answer.
 pub fn symbol_tables<'a, S: Store<'a>>(store: &S) -> Result<Option<SymbolTables<'a>>, Refusal>
-    ensures { answered files_of result ≡ question symbol_tables (endian store.now) ((map store.now).at 128) }
+    ensures { answered files_of result ≡ question symbol_tables (S.endian store.now) ((S.map store.now).at 128) }
 {
     match store.section(SIMPLEPERF_FILE) {
         None => Ok(None),
@@ -27,7 +27,7 @@ pub fn symbol_table<'a, S: Store<'a>>(
     store: &S,
     k: usize,
 ) -> Result<Option<SimpleperfFileRecord<'a>>, Refusal>
-    ensures { answered file_of result ≡ one_of k (question symbol_tables (endian store.now) ((map store.now).at 128)) }
+    ensures { answered file_of result ≡ one_of k (question symbol_tables (S.endian store.now) ((S.map store.now).at 128)) }
 {
     match symbol_tables(store)? {
         None => Ok(None),
@@ -41,7 +41,7 @@ pub fn symbol<'a, S: Store<'a>>(
     k: usize,
     i: usize,
 ) -> Result<Option<SimpleperfSymbol<'a>>, Refusal>
-    ensures { answered symbol_of result ≡ of_file (symbol_at i) (one_of k (question symbol_tables (endian store.now) ((map store.now).at 128))) }
+    ensures { answered symbol_of result ≡ of_file (symbol_at i) (one_of k (question symbol_tables (S.endian store.now) ((S.map store.now).at 128))) }
 {
     match symbol_table(store, k)? {
         None => Ok(None),
@@ -54,7 +54,7 @@ pub fn symbol<'a, S: Store<'a>>(
 
 // One of its dex offsets, by its number from 0; none past the last, and of another file none.
 pub fn dex_offset<'a, S: Store<'a>>(store: &S, k: usize, i: usize) -> Result<Option<u64>, Refusal>
-    ensures { answered (λ n. n) result ≡ of_file (offset_at i) (one_of k (question symbol_tables (endian store.now) ((map store.now).at 128))) }
+    ensures { answered (λ n. n) result ≡ of_file (offset_at i) (one_of k (question symbol_tables (S.endian store.now) ((S.map store.now).at 128))) }
 {
     let Some(file) = symbol_table(store, k)? else {
         return Ok(None);

@@ -13,15 +13,15 @@ loop-k-preserved c =
     let total = length c.args.section.now in
     let so_far = c.loop-k.invariant.0 in
     let i = c.in-ok-item.item in
-    let left : ℕ = c.in-Some.count - c.loop-k.-k in
+    let left : ℕ = c.in-Some.count - c.loop-k._k in
     let is = sym c.in-ok-item.ensures in
-    let less : left - 1 ≡ c.in-Some.count - (c.loop-k.-k + 1) = omega arith in
+    let less : left - 1 ≡ c.in-Some.count - (c.loop-k._k + 1) = omega arith in
     let short = item_shorter name_row o _ c.loop-k.rest.now _ is in (
       so_far ++ option_to_list i.row,
       c.put-fill.ensures so_far c.loop-k.invariant.1,
       c.loop-k.invariant.2
           ∙ ap (joined so_far) (items-next name_row o total left c.loop-k.rest.now _ (omega arith) is ∙ ap (λ k. given_before i.row (items_in name_row o total k i.rest.now)) less)
-          ∙ given-next so_far i.row (items_in name_row o total (c.in-Some.count - (c.loop-k.-k + 1)) i.rest.now),
+          ∙ given-next so_far i.row (items_in name_row o total (c.in-Some.count - (c.loop-k._k + 1)) i.rest.now),
       omega arith,
     )
 

@@ -11,5 +11,5 @@ abbrev pub invariant-loop-k : goal.invariant-loop-k
 invariant-loop-k l =
     (so_far : List Row)
     × Filled numbers key_of so_far l.fill l.rows
-    × (items name_row l.order l.section ≡ joined so_far (items_in name_row l.order (length l.section) (l.count - l.-k) l.rest))
+    × (items name_row l.order l.section ≡ joined so_far (items_in name_row l.order (length l.section) (l.count - l._k) l.rest))
     × (length l.rest ≤ length l.section)

@@ -14,7 +14,7 @@ pub loop-k-preserved : goal.loop-k-preserved
 loop-k-preserved c =
     let total : ℕ = length c.args.section.now in
     let e = sym c.in-Ok.ensures in
-    let less : c.args.count - c.loop-k.-k - 1 ≡ c.args.count - (c.loop-k.-k + 1) = omega arith in
+    let less : c.args.count - c.loop-k._k - 1 ≡ c.args.count - (c.loop-k._k + 1) = omega arith in
     let short = rest_shorter c.args.order c.loop-k.rest.now _ e in (
       c.loop-k.invariant.0
           ∙ (fault-more 11 c.args.order total _ c.loop-k.rest.now _ (omega arith) e

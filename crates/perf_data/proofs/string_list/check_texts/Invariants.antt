@@ -4,5 +4,5 @@ use Rattle.perf_data.proofs.string_list.check_texts.Given as goal
 
 abbrev pub invariant-loop-k : goal.invariant-loop-k
 invariant-loop-k l =
-    (first_fault (texts_in 11 l.order (length l.section) l.count (drop 4 l.section)) ≡ first_fault (texts_in 11 l.order (length l.section) (l.count - l.-k) l.rest))
+    (first_fault (texts_in 11 l.order (length l.section) l.count (drop 4 l.section)) ≡ first_fault (texts_in 11 l.order (length l.section) (l.count - l._k) l.rest))
     × (length l.rest ≤ length l.section)

@@ -6,6 +6,6 @@ use Rattle.perf_data.proofs.string_list.read_string_list.Goals as goal
 pub returns : goal.returns
 returns c =
     let s : List ℕ = c.args.section.now in
-    let clean = sym c.in-ok-check-texts.ensures in
+    let clean = sym c.in_ok-check_texts.ensures in
     ap (λ t. Ok (readable c.args.order c.in-Some.count t)) c.tail.ensures
     ∙ sym (ap (counted c.args.order s) (sym c.in-Some.ensures.is) ∙ texts-read 11 c.args.order (length s) c.in-Some.count (drop 4 s) clean)

@@ -14,7 +14,7 @@ returns-in-err-after c =
 pub loop-k-preserved : goal.loop-k-preserved
 loop-k-preserved c =
     let item = u64_in c.args.order c.args.size in
-    let less : c.args.count - c.loop-k.-k - 1 ≡ c.args.count - (c.loop-k.-k + 1) = omega arith in
+    let less : c.args.count - c.loop-k._k - 1 ≡ c.args.count - (c.loop-k._k + 1) = omega arith in
     c.loop-k.invariant
     ∙ (rest_more item _ c.loop-k.rest.now _ (omega arith) (sym c.in-ok-after.ensures)
     ∙ ap (λ n. rest_of (items item n c.in-ok-after.after.now)) less)
