@@ -11,7 +11,7 @@ returns c =
       place = search rules;
       after =
           elim c.if-at-out.branch [
-            | then-at-out w ↦ w.out-is ∙ overlay-part out c.args.at bytes _ w.min-n.result w.min-n.ensures w.copy-from-slice.ensures.after
+            | then-at-out w ↦ w.out-is ∙ overlay-part out c.args.at bytes _ w.min-n.result w.min-n.ensures w.copy_from_slice.ensures.after
             | else-at-out w ↦ w.out-is ∙ sym (overlay_past out c.args.at bytes w.if-at-out.false)
           ];
     }

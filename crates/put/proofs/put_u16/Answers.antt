@@ -5,8 +5,8 @@ use Rattle.put.proofs.put_u16.Goals as goal
 
 pub returns : goal.returns
 returns c =
-    let same = c.to-le-bytes.ensures ∙ lowest-2 c.args.n in
+    let same = c.to_le_bytes.ensures ∙ lowest-2 c.args.n in
     record {
-      place = c.put.ensures.place ∙ ap (λ x. place (c.args.at + length x)) c.to-le-bytes.ensures;
+      place = c.put.ensures.place ∙ ap (λ x. place (c.args.at + length x)) c.to_le_bytes.ensures;
       after = c.put.ensures.after ∙ ap (overlay c.args.out.now c.args.at) same;
     }

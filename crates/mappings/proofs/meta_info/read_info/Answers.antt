@@ -12,7 +12,7 @@ returns c =
     let n = length c.args.rows.now in
     let r = c.settle.result in
     let after = c.settle.new.rows in
-    let is = subst (λ k. Settled 129 (meta_rows s) k r after) c.read-pairs-read.auto.rows (c.settle.ensures (meta_rows s) c.read-pairs-read.ensures) in
+    let is = subst (λ k. Settled 129 (meta_rows s) k r after) c.read_pairs-read.auto.rows (c.settle.ensures (meta_rows s) c.read_pairs-read.ensures) in
     record {
       answer = settled_answer (entry_of (key_part s) s) 129 n (meta_rows s) (meta_table s) r after (info_tied s) is;
       after = is.rows-after;

@@ -16,46 +16,46 @@ found key value = Ok (Some (pair_row key value))
 abbrev valued : Piece → Piece → Result (Option Row) Fault
 valued key value = checked value (found key value)
 
-pub returns-then-value-at-section : goal.returns-then-value-at-section
-returns-then-value-at-section c =
-    let is = c.before-nul-key.ensures ∙ ap before_nul c.tail.ensures in
+pub returns-then-value_at-section : goal.returns-then-value_at-section
+returns-then-value_at-section c =
+    let is = c.before_nul-key.ensures ∙ ap before_nul c.tail.ensures in
     sym (ap (first_pair pair_row) (lone c.args.section.now c.args.at _ (omega arith) is (omega arith)))
 
-pub returns-then-not-well-formed : goal.returns-then-not-well-formed
-returns-then-not-well-formed c =
-    let key = c.before-nul-key.result.now in
-    let value = c.before-nul-value.result.now in
+pub returns-then-not-well_formed : goal.returns-then-not-well_formed
+returns-then-not-well_formed c =
+    let key = c.before_nul-key.result.now in
+    let value = c.before_nul-value.result.now in
     let from : ℕ = c.args.at + length key + 1 in
-    let key-is = c.before-nul-key.ensures ∙ ap before_nul c.tail.ensures in
-    let value-is = c.before-nul-value.ensures ∙ ap before_nul c.tail-2.ensures in
-    ap Err c.ill-formed.ensures
-    ∙ unformed (piece c.args.at key) (valued (piece c.args.at key) (piece from value)) c.if-not-well-formed.ensures.test
+    let key-is = c.before_nul-key.ensures ∙ ap before_nul c.tail.ensures in
+    let value-is = c.before_nul-value.ensures ∙ ap before_nul c.tail-2.ensures in
+    ap Err c.ill_formed.ensures
+    ∙ unformed (piece c.args.at key) (valued (piece c.args.at key) (piece from value)) c.if-not-well_formed.ensures.test
     ∙ sym (ap (first_pair pair_row) (two c.args.section.now c.args.at key (omega arith) key-is value (omega arith) value-is))
 
-pub returns-then-not-well-formed-2 : goal.returns-then-not-well-formed-2
-returns-then-not-well-formed-2 c =
-    let key = c.before-nul-key.result.now in
-    let value = c.before-nul-value.result.now in
+pub returns-then-not-well_formed-2 : goal.returns-then-not-well_formed-2
+returns-then-not-well_formed-2 c =
+    let key = c.before_nul-key.result.now in
+    let value = c.before_nul-value.result.now in
     let from : ℕ = c.args.at + length key + 1 in
-    let key-is = c.before-nul-key.ensures ∙ ap before_nul c.tail.ensures in
-    let value-is = c.before-nul-value.ensures ∙ ap before_nul c.tail-2.ensures in
-    ap Err c.ill-formed-then-not-well-formed-2.ensures
-    ∙ unformed (piece from value) (found (piece c.args.at key) (piece from value)) c.if-not-well-formed-2.ensures.test
-    ∙ formed (piece c.args.at key) (valued (piece c.args.at key) (piece from value)) c.if-not-well-formed.ensures.test
+    let key-is = c.before_nul-key.ensures ∙ ap before_nul c.tail.ensures in
+    let value-is = c.before_nul-value.ensures ∙ ap before_nul c.tail-2.ensures in
+    ap Err c.ill_formed-then-not-well_formed-2.ensures
+    ∙ unformed (piece from value) (found (piece c.args.at key) (piece from value)) c.if-not-well_formed-2.ensures.test
+    ∙ formed (piece c.args.at key) (valued (piece c.args.at key) (piece from value)) c.if-not-well_formed.ensures.test
     ∙ sym (ap (first_pair pair_row) (two c.args.section.now c.args.at key (omega arith) key-is value (omega arith) value-is))
 
-pub overflow-cast-result-4 : goal.overflow-cast-result-4
-overflow-cast-result-4 c =
-    let value-is = c.before-nul-value.ensures in
-    omega (arith, ap length value-is, nul_within c.tail-2.result.now, ap length c.tail-2.ensures, length-drop (c.args.at + length c.before-nul-key.result.now + 1) c.args.section.now)
+pub overflow_cast-result-4 : goal.overflow_cast-result-4
+overflow_cast-result-4 c =
+    let value-is = c.before_nul-value.ensures in
+    omega (arith, ap length value-is, nul_within c.tail-2.result.now, ap length c.tail-2.ensures, length-drop (c.args.at + length c.before_nul-key.result.now + 1) c.args.section.now)
 
 pub returns : goal.returns
 returns c =
-    let key = c.before-nul-key.result.now in
-    let value = c.before-nul-value.result.now in
+    let key = c.before_nul-key.result.now in
+    let value = c.before_nul-value.result.now in
     let from : ℕ = c.args.at + length key + 1 in
-    let key-is = c.before-nul-key.ensures ∙ ap before_nul c.tail.ensures in
-    let value-is = c.before-nul-value.ensures ∙ ap before_nul c.tail-2.ensures in
-    formed (piece from value) (found (piece c.args.at key) (piece from value)) c.if-not-well-formed-2.ensures.test
-    ∙ formed (piece c.args.at key) (valued (piece c.args.at key) (piece from value)) c.if-not-well-formed.ensures.test
+    let key-is = c.before_nul-key.ensures ∙ ap before_nul c.tail.ensures in
+    let value-is = c.before_nul-value.ensures ∙ ap before_nul c.tail-2.ensures in
+    formed (piece from value) (found (piece c.args.at key) (piece from value)) c.if-not-well_formed-2.ensures.test
+    ∙ formed (piece c.args.at key) (valued (piece c.args.at key) (piece from value)) c.if-not-well_formed.ensures.test
     ∙ sym (ap (first_pair pair_row) (two c.args.section.now c.args.at key (omega arith) key-is value (omega arith) value-is))

@@ -3,7 +3,7 @@ use Rattle.std.proofs.lemmas.List.{length-drop}
 use Rattle.text.proofs.Headers.{header_text_told}
 use Rattle.mappings.proofs.pmu_mappings.read_item.Goals as goal
 
-pub overflow-cast-row-in-Ok : goal.overflow-cast-row-in-Ok
-overflow-cast-row-in-Ok c =
+pub overflow_cast-row-in-Ok : goal.overflow_cast-row-in-Ok
+overflow_cast-row-in-Ok c =
     let told = header_text_told c.args.order c.tail-text.result.now _ (sym c.in-Ok.ensures) in
     omega (arith, told.short, ap length c.tail-text.ensures, length-drop 4 c.args.s.now)

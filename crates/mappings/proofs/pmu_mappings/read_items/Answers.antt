@@ -12,9 +12,9 @@ loop-k-preserved c =
     let o = c.args.order in
     let total = length c.args.section.now in
     let so_far = c.loop-k.invariant.0 in
-    let i = c.in-ok-item.item in
+    let i = c.in_ok-item.item in
     let left : ℕ = c.in-Some.count - c.loop-k._k in
-    let is = sym c.in-ok-item.ensures in
+    let is = sym c.in_ok-item.ensures in
     let less : left - 1 ≡ c.in-Some.count - (c.loop-k._k + 1) = omega arith in
     let short = item_shorter name_row o _ c.loop-k.rest.now _ is in (
       so_far ++ option_to_list i.row,
@@ -25,14 +25,14 @@ loop-k-preserved c =
       omega arith,
     )
 
-pub returns-in-err-item : goal.returns-in-err-item
-returns-in-err-item c =
+pub returns-in_err-item : goal.returns-in_err-item
+returns-in_err-item c =
     let o = c.args.order in
     let s = c.args.section.now in
-    let e = c.in-err-item.field-0.0 in
-    let p = err_from_is_err_and c.from-residual.result c.from-residual.ensures.1 in
-    fault_made numbers key_of (items name_row o s) c.loop-k.rows c.from-residual.result e
-    (c.loop-k.invariant.2 ∙ ap (joined c.loop-k.invariant.0) (items-next name_row o (length s) _ c.loop-k.rest.now _ (omega arith) (sym c.in-err-item.ensures)))
+    let e = c.in_err-item.field-0.0 in
+    let p = err_from_is_err_and c.from_residual.result c.from_residual.ensures.1 in
+    fault_made numbers key_of (items name_row o s) c.loop-k.rows c.from_residual.result e
+    (c.loop-k.invariant.2 ∙ ap (joined c.loop-k.invariant.0) (items-next name_row o (length s) _ c.loop-k.rest.now _ (omega arith) (sym c.in_err-item.ensures)))
     (p.1 ∙ ap Err p.2)
 
 pub returns : goal.returns

@@ -10,7 +10,7 @@ use Rattle.simpleperf.proofs.questions.dex_offset.Goals as goal
 pub returns-in-SimpleperfDexFileInfo : goal.returns-in-SimpleperfDexFileInfo
 returns-in-SimpleperfDexFileInfo g c =
     let found = nth_from_yields_List c.nth.result c.nth.new.self c.args.i c.nth.ensures.ran (offsets_road c.in-SimpleperfDexFileInfo.dex.dex_file_offset) in
-    let info = c.in-Some-type-specific-msg.is ∙ ap Some c.in-SimpleperfDexFileInfo.is in
+    let info = c.in-Some-type_specific_msg.is ∙ ap Some c.in-SimpleperfDexFileInfo.is in
     ap Ok (same (λ n. n) c.nth.result ∙ found)
     ∙ ap (λ m. Ok (slice_get (offsets_in (info_of m)) c.args.i)) (sym info)
-    ∙ ap (of_file (offset_at c.args.i)) (ap (λ x. Ok (mapped file_of x)) (sym c.in-Some.is) ∙ c.in-ok-file.ensures)
+    ∙ ap (of_file (offset_at c.args.i)) (ap (λ x. Ok (mapped file_of x)) (sym c.in-Some.is) ∙ c.in_ok-file.ensures)

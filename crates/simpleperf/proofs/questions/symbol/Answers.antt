@@ -10,4 +10,4 @@ pub returns-in-Some : goal.returns-in-Some
 returns-in-Some g c =
     let found = nth_from_yields_List c.nth.result c.nth.new.self c.args.i c.nth.ensures.ran (symbols_road c.in-Some.file.symbol) in
     ap Ok (same symbol_of c.nth.result ∙ found)
-    ∙ ap (of_file (symbol_at c.args.i)) (ap (λ x. Ok (mapped file_of x)) (sym c.in-Some.is) ∙ c.in-ok-symbol-table.ensures)
+    ∙ ap (of_file (symbol_at c.args.i)) (ap (λ x. Ok (mapped file_of x)) (sym c.in-Some.is) ∙ c.in_ok-symbol_table.ensures)

@@ -10,4 +10,4 @@ pub returns-in-Some : goal.returns-in-Some
 returns-in-Some g c =
     let found = nth_from_yields_List c.nth.result c.nth.new.self c.args.k c.nth.ensures.ran (files_road c.in-Some.tables) in
     ap Ok (same file_of c.nth.result ∙ found)
-    ∙ ap (one_of c.args.k) (ap (λ x. Ok (mapped files_of x)) (sym c.in-Some.is) ∙ c.in-ok-symbol-tables.ensures)
+    ∙ ap (one_of c.args.k) (ap (λ x. Ok (mapped files_of x)) (sym c.in-Some.is) ∙ c.in_ok-symbol_tables.ensures)

@@ -3,10 +3,10 @@ use Rattle.simpleperf.specs.Tables.{symbol_in}
 use Rattle.simpleperf.proofs.Counted.{counted-read, counted-fault}
 use Rattle.simpleperf.proofs.symbol.read_symbols.Goals as goal
 
-pub returns-in-err-after : goal.returns-in-err-after
-returns-in-err-after c =
-    let p = err_from_is_err_and c.from-residual-in-err-after.result c.from-residual-in-err-after.ensures.1 in
-    rw (p.1, p.2) (counted-fault symbol_in c.args.order c.args.size _ c.args.bytes.now _ c.in-ok-left.ensures _ c.in-err-after.ensures)
+pub returns-in_err-after : goal.returns-in_err-after
+returns-in_err-after c =
+    let p = err_from_is_err_and c.from_residual-in_err-after.result c.from_residual-in_err-after.ensures.1 in
+    rw (p.1, p.2) (counted-fault symbol_in c.args.order c.args.size _ c.args.bytes.now _ c.in_ok-left.ensures _ c.in_err-after.ensures)
 
 pub returns : goal.returns
-returns c = counted-read symbol_in c.args.order c.args.size _ c.args.bytes.now _ c.in-ok-left.ensures _ c.in-ok-after.ensures
+returns c = counted-read symbol_in c.args.order c.args.size _ c.args.bytes.now _ c.in_ok-left.ensures _ c.in_ok-after.ensures

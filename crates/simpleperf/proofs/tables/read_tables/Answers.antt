@@ -8,4 +8,4 @@ pub returns : goal.returns
 returns c =
     let item = sized_file c.args.order (length c.args.section.now) in
     let some = shorter c.args.order (length c.args.section.now) in
-    sym (run-read item some c.args.section.now (sym c.in-ok-check-files.ensures))
+    sym (run-read item some c.args.section.now (sym c.in_ok-check_files.ensures))
