@@ -1,18 +1,8 @@
 -- Comparisons of byte strings, and the part of a path after its last slash.
 use Rattle.std.proofs.Common.{◌≡◌, ℕ, ◌+◌, ◌<◌, ◌≤◌, Bool, cond, eqb, List, [], ◌∷◌, length, get_or, drop, Decides, refl, ap, ◌∙◌, rules}
-use Rattle.std.specs.Cmp.Lexicographic.{Matches}
-use Rattle.std.specs.Str.{bytes_eq}
-use Rattle.std.proofs.lemmas.Slice.Eq.{slice_eq-Decides, bytes_eq-Decides}
 use Rattle.std.proofs.lemmas.List.{drop_more, drop_all}
 use Rattle.std.proofs.lemmas.Bool.{eq-eqb, ne_eqb, cond-true, cond-false}
 use Rattle.dso_key.specs.Paths.{after_last, file_name}
-use Rattle.std.proofs.lemmas.Bool.Decides.{Decides-eqb}
-
-decided : (xs ys : List ℕ) (r : Bool) → Decides r (xs ≡ ys) → r ≡ bytes_eq xs ys
-decided xs ys r h = search (rules, bytes_eq-Decides)
-
-pub compared : (xs ys : List ℕ) (r : Bool) → Matches (λ (a b : ℕ) (t : Bool). Decides t (a ≡ b)) xs ys r → r ≡ bytes_eq xs ys
-compared xs ys r h = decided xs ys r (slice_eq-Decides Decides-eqb xs ys r h)
 
 module _ (path here : List ℕ) (i : ℕ) (is : file_name path ≡ after_last here (drop i path)) where
   module _ (within : i < length path) where

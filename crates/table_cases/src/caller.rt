@@ -8,8 +8,8 @@ use table::kind::Kind;
 use table::row::Row;
 
 pub fn tabulate<K: Kind>(kind: &K, rows: &mut [Row], given: &[Row]) -> Option<usize>
-    ensures count { result ≡ fits (length rows.old) (tabled order (key kind.now) given.now) }
-    ensures table { rows.new ≡ laid (length rows.old) (tabled order (key kind.now) given.now) }
+    ensures count { result ≡ fits (length rows.old) (tabled K.order (K.key kind.now) given.now) }
+    ensures table { rows.new ≡ laid (length rows.old) (tabled K.order (K.key kind.now) given.now) }
 {
     let mut fill = Fill::start(rows);
     for row in given {

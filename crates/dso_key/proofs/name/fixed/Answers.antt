@@ -4,4 +4,4 @@ use Rattle.dso_key.proofs.name.fixed.Goals as goal
 
 pub returns : goal.returns
 unfolding pieces_past
-returns c = c.shown-between.ensures ∙ append-nil c.args.name.now
+returns c = c.shown_between.ensures ∙ append-nil c.args.name.now

@@ -35,4 +35,4 @@ returns-in-KernelModule c = c.bytes.ensures ∙ sym (ap (λ k. name_of (key_of k
 pub returns-in-User : goal.returns-in-User
 unfolding name_of
 returns-in-User c =
-    c.shown-between.ensures ∙ (append-nil _ ∙ (ap shown c.file-name.ensures ∙ sym (ap (λ k. name_of (key_of k)) c.in-User.is)))
+    c.shown_between.ensures ∙ (append-nil _ ∙ (ap shown c.file_name.ensures ∙ sym (ap (λ k. name_of (key_of k)) c.in-User.is)))

@@ -27,7 +27,7 @@ returns-in-empty c =
     let s = c.args.self.now in
     let none : s.front.now ≡ [] = nil_from_length s.front.now (omega (arith, ltb-true, ltb-false)) in
     let end : s.back.now ≡ [] = nil_from_length s.back.now (omega (arith, ltb-true, ltb-false)) in
-    let t = c.in-default-next.ensures.steps in
+    let t = c.in_default-next.ensures.steps in
     record { steps = (λ i. none i ++ (t.0 i ++ end i), λ i. none i ++ (t.1 i ++ end i)); goes = firm (tt) (λ h. search rules) }
 
 pub returns-in-len1-up-back : goal.returns-in-len1-up-back
@@ -36,7 +36,7 @@ returns-in-len1-up-back c =
     let back = s.back.now in
     let more : List ℕ = take (length back - 1) (drop 1 back) in
     let none : s.front.now ≡ [] = nil_from_length s.front.now (omega (arith, ltb-true, ltb-false)) in
-    let t = c.in-default-next.ensures.steps in
+    let t = c.in_default-next.ensures.steps in
     let e : to_come s ≡ get_or back 0 0 ∷ (s.front.now ++ (shown_to_come c.next.new.self ++ more)) =
     (λ i. none i ++ (t.0 i ++ uncons back (omega (arith, ltb-true, ltb-false)) i))
     ∙ (λ i. get_or back 0 0 ∷ (sym none i ++ (sym t.1 i ++ more))) in
