@@ -9,18 +9,18 @@ loop-groups-preserved c =
     let k = 4 * (c.loop-groups.groups - 1) in
     let four : k + 4 - k ≡ 4 = omega arith in (
       c.loop-groups.invariant.0
-          ∙ zeros_more s c.loop-groups.groups k (omega arith) refl (c.if-not-all-zero.ensures ∙ ap (λ n. all_zero (take n (drop k s))) four),
+          ∙ zeros_more s c.loop-groups.groups k (omega arith) refl (c.if-not-all_zero.ensures ∙ ap (λ n. all_zero (take n (drop k s))) four),
       omega arith,
     )
 
-pub returns-then-not-all-zero : goal.returns-then-not-all-zero
-returns-then-not-all-zero c =
+pub returns-then-not-all_zero : goal.returns-then-not-all_zero
+returns-then-not-all_zero c =
     let s = c.args.bytes.now in
     let k = 4 * (c.loop-groups.groups - 1) in
     let four : k + 4 - k ≡ 4 = omega arith in
     let whole : k + 4 - 0 ≡ k + 4 = omega arith in
     ap (λ n. take n s) whole
-    ∙ sym (c.loop-groups.invariant.0 ∙ zeros_here s c.loop-groups.groups k (omega arith) refl (c.if-not-all-zero.ensures ∙ ap (λ n. all_zero (take n (drop k s))) four))
+    ∙ sym (c.loop-groups.invariant.0 ∙ zeros_here s c.loop-groups.groups k (omega arith) refl (c.if-not-all_zero.ensures ∙ ap (λ n. all_zero (take n (drop k s))) four))
 
 pub returns : goal.returns
 returns c = sym (c.loop-groups.invariant.0 ∙ zeros_none c.args.bytes.now c.loop-groups.groups (omega arith))

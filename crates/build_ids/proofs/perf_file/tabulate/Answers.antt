@@ -11,10 +11,10 @@ use Rattle.build_ids.proofs.Reading.{event-size}
 use Rattle.build_ids.proofs.Parts.{path-short, id-short}
 use Rattle.build_ids.proofs.Filling.{rows_end, rows_kept, rows-passed}
 use Rattle.build_ids.proofs.perf_file.tabulate.Goals as goal
-use Rattle.build_ids.proofs.perf_file.tabulate.Goals.{in-Some-row-of, in-default-row-of}
+use Rattle.build_ids.proofs.perf_file.tabulate.Goals.{in-Some-row_of, in_default-row_of}
 
-pub row-of-requires : goal.row-of-requires
-row-of-requires c =
+pub row_of-requires : goal.row_of-requires
+row_of-requires c =
     let s = c.args.section.now in
     let o = c.args.order in
     let at = c.loop-event.at in
@@ -26,8 +26,8 @@ row-of-requires c =
       id = omega (arith, id-short o (drop at s) e h, length-drop at s);
     }
 
-pub overflow-add-at : goal.overflow-add-at
-overflow-add-at c =
+pub overflow_add-at : goal.overflow_add-at
+overflow_add-at c =
     let s = c.args.section.now in
     let o = c.args.order in
     let at = c.loop-event.at in
@@ -53,18 +53,18 @@ loop-event-preserved c =
     let h : event o (drop at s) ≡ Some e = sym (c.in-Some.ensures ∙ ap (event o) c.tail.ensures) in
     let so_far = c.loop-event.invariant.0 in
     let within : at + e.size ≤ length s = omega (arith, c.loop-event.invariant.3, (event-size o (drop at s) e h).1, length-drop at s) in
-    elim c.match-row-of.branch [
-      | in-Some-row-of w ↦ (
-        so_far ++ w.in-Some-row-of.row ∷ [],
-        subst (λ (p : Fill × List Row). Filled keys (row_key s) (so_far ++ w.in-Some-row-of.row ∷ []) p.0 p.1) (λ i. (sym w.fill-is i, sym w.rows-is i))
+    elim c.match-row_of.branch [
+      | in-Some-row_of w ↦ (
+        so_far ++ w.in-Some-row_of.row ∷ [],
+        subst (λ (p : Fill × List Row). Filled keys (row_key s) (so_far ++ w.in-Some-row_of.row ∷ []) p.0 p.1) (λ i. (sym w.fill-is i, sym w.rows-is i))
             (w.add-fill.ensures so_far c.loop-event.invariant.1),
-        rows_kept o s so_far at c.loop-event.invariant.2 e h w.in-Some-row-of.row w.in-Some-row-of.ensures,
+        rows_kept o s so_far at c.loop-event.invariant.2 e h w.in-Some-row_of.row w.in-Some-row_of.ensures,
         within,
       )
-      | in-default-row-of w ↦ (
+      | in_default-row_of w ↦ (
         so_far,
         subst (λ (p : Fill × List Row). Filled keys (row_key s) so_far p.0 p.1) (λ i. (sym w.fill-is i, sym w.rows-is i)) c.loop-event.invariant.1,
-        rows-passed o s so_far at c.loop-event.invariant.2 e h w.in-default-row-of.ensures,
+        rows-passed o s so_far at c.loop-event.invariant.2 e h w.in_default-row_of.ensures,
         within,
       )
     ]
@@ -76,7 +76,7 @@ returns c =
     let o = c.args.order in
     let at = c.loop-event.at in
     let so_far = c.loop-event.invariant.0 in
-    let h : event o (drop at s) ≡ None = sym (c.in-default.ensures ∙ ap (event o) c.tail.ensures) in
+    let h : event o (drop at s) ≡ None = sym (c.in_default.ensures ∙ ap (event o) c.tail.ensures) in
     let all = ap (tabled keys (row_key s)) (rows_end o s so_far at c.loop-event.invariant.2 h) in
     let n : length c.loop-event.rows ≡ length c.args.rows.now = omega (arith, c.loop-event.auto.rows, c.start-fill.auto.rows) in
     let done = c.finish.ensures.holds (tabled keys (row_key s) so_far) c.loop-event.rows c.loop-event.invariant.1 in

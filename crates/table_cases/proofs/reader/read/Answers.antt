@@ -12,7 +12,7 @@ returns-then-b c =
     let n = length c.args.rows.now in
     let e : items 0 s ≡ Err c.loop-at.at = items-fault s c.loop-at.invariant.0 c.loop-at.at c.loop-at.invariant.2 (omega arith) (search rules) in
     let k : length c.loop-at.rows ≡ n = omega (arith, c.loop-at.auto.rows, c.start-fill.auto.rows) in
-    record { is = sym (ap (answered n) e); after = c.blank-all.ensures ∙ ap (λ m. leaves m (Err c.loop-at.at)) k ∙ sym (ap (leaves n) e) }
+    record { is = sym (ap (answered n) e); after = c.blank_all.ensures ∙ ap (λ m. leaves m (Err c.loop-at.at)) k ∙ sym (ap (leaves n) e) }
 
 pub loop-at-preserved : goal.loop-at-preserved
 loop-at-preserved c =
@@ -34,6 +34,6 @@ returns c =
     let k : length c.loop-at.rows ≡ n = omega (arith, c.loop-at.auto.rows, c.start-fill.auto.rows) in
     let h = c.finish.ensures.holds (table so_far) c.loop-at.rows c.loop-at.invariant.1 in
     record {
-      is = c.ok-or.ensures.value ∙ ap (λ o. ok_or o TooFewRows) h.0 ∙ ap (λ m. answered m (Ok so_far)) k ∙ sym (ap (answered n) e);
+      is = c.ok_or.ensures.value ∙ ap (λ o. ok_or o TooFewRows) h.0 ∙ ap (λ m. answered m (Ok so_far)) k ∙ sym (ap (answered n) e);
       after = h.1 ∙ ap (λ m. leaves m (Ok so_far)) k ∙ sym (ap (leaves n) e);
     }
