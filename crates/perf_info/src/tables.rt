@@ -10,6 +10,7 @@ use mappings::meta_info::{meta_entry, meta_info};
 use mappings::pmu_mappings::{pmu_entry, pmu_mappings};
 use simpleperf::file::SimpleperfFileRecord;
 use simpleperf::questions::symbol_tables;
+use simpleperf::symbol::SymbolList;
 use std::io;
 use std::str::from_utf8;
 use table::row::Row;
@@ -112,13 +113,18 @@ pub fn print_builds<'a, S: Store<'a>>(
     }
 }
 
+// How many symbols there are: a count in 32 bits, which a list of them alone tells.
+fn count_of(symbols: SymbolList<'_>) -> usize {
+    symbols.count()
+}
+
 fn print_file(rt: &HostRuntime, file: SimpleperfFileRecord<'_>) -> io::Result<()> {
     let path = Printable {
         text: file.path,
         is_word: false,
     };
     let file_type = file.file_type;
-    let symbols = file.symbol.count();
+    let symbols = count_of(file.symbol);
     println!(rt; "    {path} (type {file_type}, {symbols} symbols)")
 }
 
