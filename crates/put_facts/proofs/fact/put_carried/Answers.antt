@@ -13,8 +13,8 @@ returns-in-BuildId g c =
     let o = g.S.Store.endian c.args.store.now in
     let at = (g.S.Store.map c.args.store.now).at in
     record {
-      writes = writes_at c.in-BuildId.is n o at c.put-builds.ensures.writes;
-      rows = rows_at c.in-BuildId.is c.args.rows.now c.put-builds.ensures.blank;
+      writes = writes_at c.in-BuildId.is n o at c.put_builds.ensures.writes;
+      rows = rows_at c.in-BuildId.is c.args.rows.now c.put_builds.ensures.blank;
     }
 
 pub returns-in-NrCpus : goal.returns-in-NrCpus
@@ -26,7 +26,7 @@ returns-in-NrCpus g c =
     record {
       writes =
           writes_at c.in-NrCpus.is n o at
-          (writes_same (tells cpus (λ x. x) (λ x. write (cpus x)) (of_first 8 nr_cpus) o (at 7) c.nr-cpus.result c.nr-cpus.ensures (λ x q. refl)) c.put-answer.ensures);
+          (writes_same (tells cpus (λ x. x) (λ x. write (cpus x)) (of_first 8 nr_cpus) o (at 7) c.nr_cpus.result c.nr_cpus.ensures (λ x q. refl)) c.put_answer.ensures);
       rows = rows_at c.in-NrCpus.is c.args.rows.now refl;
     }
 
@@ -39,7 +39,7 @@ returns-in-TotalMem g c =
     record {
       writes =
           writes_at c.in-TotalMem.is n o at
-          (writes_same (tells memory (λ x. x) (λ x. write (memory x)) (of_first 8 total_mem) o (at 10) c.total-mem.result c.total-mem.ensures (λ x q. refl)) c.put-answer-in-TotalMem.ensures);
+          (writes_same (tells memory (λ x. x) (λ x. write (memory x)) (of_first 8 total_mem) o (at 10) c.total_mem.result c.total_mem.ensures (λ x q. refl)) c.put_answer-in-TotalMem.ensures);
       rows = rows_at c.in-TotalMem.is c.args.rows.now refl;
     }
 
@@ -52,7 +52,7 @@ returns-in-CmdLine g c =
     record {
       writes =
           writes_at c.in-CmdLine.is n o at
-          (writes_same (tells texts to_come (λ x. write (texts (to_come x))) command_line o (at 11) c.cmdline.result c.cmdline.ensures (λ x q. refl)) c.put-answer-in-CmdLine.ensures);
+          (writes_same (tells texts to_come (λ x. write (texts (to_come x))) command_line o (at 11) c.cmdline.result c.cmdline.ensures (λ x q. refl)) c.put_answer-in-CmdLine.ensures);
       rows = rows_at c.in-CmdLine.is c.args.rows.now refl;
     }
 
@@ -62,8 +62,8 @@ returns-in-PmuMappings g c =
     let o = g.S.Store.endian c.args.store.now in
     let at = (g.S.Store.map c.args.store.now).at in
     record {
-      writes = writes_at c.in-PmuMappings.is n o at c.put-names.ensures.writes;
-      rows = rows_at c.in-PmuMappings.is c.args.rows.now c.put-names.ensures.blank;
+      writes = writes_at c.in-PmuMappings.is n o at c.put_names.ensures.writes;
+      rows = rows_at c.in-PmuMappings.is c.args.rows.now c.put_names.ensures.blank;
     }
 
 pub returns-in-Stat : goal.returns-in-Stat
@@ -72,7 +72,7 @@ returns-in-Stat g c =
     let o = g.S.Store.endian c.args.store.now in
     let at = (g.S.Store.map c.args.store.now).at in
     record {
-      writes = writes_at c.in-Stat.is n o at (writes_same c.stat.ensures c.put-answer-in-Stat.ensures);
+      writes = writes_at c.in-Stat.is n o at (writes_same c.stat.ensures c.put_answer-in-Stat.ensures);
       rows = rows_at c.in-Stat.is c.args.rows.now refl;
     }
 
@@ -85,7 +85,7 @@ returns-in-ClockId g c =
     record {
       writes =
           writes_at c.in-ClockId.is n o at
-          (writes_same (tells clock (λ x. x) (λ x. write (clock x)) (of_first 8 clock_frequency) o (at 23) c.clock-frequency.result c.clock-frequency.ensures (λ x q. refl)) c.put-answer-in-ClockId.ensures);
+          (writes_same (tells clock (λ x. x) (λ x. write (clock x)) (of_first 8 clock_frequency) o (at 23) c.clock_frequency.result c.clock_frequency.ensures (λ x q. refl)) c.put_answer-in-ClockId.ensures);
       rows = rows_at c.in-ClockId.is c.args.rows.now refl;
     }
 
@@ -95,7 +95,7 @@ returns-in-SimpleperfFile g c =
     let o = g.S.Store.endian c.args.store.now in
     let at = (g.S.Store.map c.args.store.now).at in
     record {
-      writes = writes_at c.in-SimpleperfFile.is n o at c.put-files.ensures;
+      writes = writes_at c.in-SimpleperfFile.is n o at c.put_files.ensures;
       rows = rows_at c.in-SimpleperfFile.is c.args.rows.now refl;
     }
 
@@ -105,8 +105,8 @@ returns-in-SimpleperfMetaInfo g c =
     let o = g.S.Store.endian c.args.store.now in
     let at = (g.S.Store.map c.args.store.now).at in
     record {
-      writes = writes_at c.in-SimpleperfMetaInfo.is n o at c.put-pairs.ensures.writes;
-      rows = rows_at c.in-SimpleperfMetaInfo.is c.args.rows.now c.put-pairs.ensures.blank;
+      writes = writes_at c.in-SimpleperfMetaInfo.is n o at c.put_pairs.ensures.writes;
+      rows = rows_at c.in-SimpleperfMetaInfo.is c.args.rows.now c.put_pairs.ensures.blank;
     }
 
 pub returns-in-Hostname : goal.returns-in-Hostname
@@ -117,7 +117,7 @@ returns-in-Hostname g c =
     let is = one-text c.args.feature c.in-Hostname.is in
     record {
       writes =
-          writes_same (text_at n o at c.args.feature c.number.result c.feature-string-text.result is c.number.ensures c.feature-string-text.ensures)
-          c.put-answer-in-Hostname.ensures;
+          writes_same (text_at n o at c.args.feature c.number.result c.feature_string-text.result is c.number.ensures c.feature_string-text.ensures)
+          c.put_answer-in-Hostname.ensures;
       rows = is.1 c.args.rows.now;
     }

@@ -8,7 +8,7 @@ returns g c =
     let store = c.args.store.now in
     let a = answer (length c.args.rows.now) (g.S.Store.endian store) (g.S.Store.map store).at c.args.feature in
     record {
-      place = writes_placed a c.put-carried.ensures.writes;
-      after = writes_overlaid a c.put-carried.ensures.writes;
-      rows = c.put-carried.ensures.rows;
+      place = writes_placed a c.put_carried.ensures.writes;
+      after = writes_overlaid a c.put_carried.ensures.writes;
+      rows = c.put_carried.ensures.rows;
     }

@@ -14,8 +14,8 @@ unfolding write
 returns g c =
     let o = g.S.Store.endian c.args.store.now in
     let m = g.S.Store.map c.args.store.now in
-    let is = c.symbol-tables.ensures in
+    let is = c.symbol_tables.ensures in
     writes_same
-    (tells files files_of (λ v. flat_map counted_file (files_of v)) symbol_tables o (m.at 128) c.symbol-tables.result is
+    (tells files files_of (λ v. flat_map counted_file (files_of v)) symbol_tables o (m.at 128) c.symbol_tables.result is
     (λ v q. files-counted o (m.at 128) (files_of v) (m.short 128) (ap (answered files_of) (sym q) ∙ is)))
-    c.put-answer.ensures
+    c.put_answer.ensures

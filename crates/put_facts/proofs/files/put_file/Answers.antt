@@ -7,7 +7,7 @@ use Rattle.put_facts.proofs.files.put_file.Goals as goal
 
 pub returns : goal.returns
 returns c =
-    puts_then (omega arith) (puts_same (ap ended c.as-bytes.ensures.value) c.put-ended-at.ensures)
-    (puts_then (omega arith) (puts_number 4 _ c.put-u32-at.ensures.place c.put-u32-at.ensures.after)
-    (puts_then (omega arith) (puts_number 8 _ c.put-u64-at.ensures.place c.put-u64-at.ensures.after)
-    (puts_then (omega arith) (puts_same (counted-map symbol_bytes (symbols_of c.args.file.symbol)) c.put-counted-at.ensures) c.put-info.ensures)))
+    puts_then (omega arith) (puts_same (ap ended c.as_bytes.ensures.value) c.put_ended-at.ensures)
+    (puts_then (omega arith) (puts_number 4 _ c.put_u32-at.ensures.place c.put_u32-at.ensures.after)
+    (puts_then (omega arith) (puts_number 8 _ c.put_u64-at.ensures.place c.put_u64-at.ensures.after)
+    (puts_then (omega arith) (puts_same (counted-map symbol_bytes (symbols_of c.args.file.symbol)) c.put_counted-at.ensures) c.put_info.ensures)))

@@ -7,5 +7,5 @@ use Rattle.put_facts.proofs.files.put_sized.Goals as goal
 
 pub returns : goal.returns
 returns c =
-    let len = c.put-file-len.ensures.goes ∙ ap place (zero-add (length (file_bytes (file_of c.args.file)))) in
-    puts_then (omega arith) (puts_same (ap u32 len) c.put-len-at.ensures) c.put-file.ensures
+    let len = c.put_file-len.ensures.goes ∙ ap place (zero-add (length (file_bytes (file_of c.args.file)))) in
+    puts_then (omega arith) (puts_same (ap u32 len) c.put_len-at.ensures) c.put_file.ensures

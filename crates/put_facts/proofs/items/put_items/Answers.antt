@@ -19,7 +19,7 @@ loop-after-preserved g c =
     let item = step.0 in (
       so_far ++ item ∷ [],
       inv.1
-          ∙ (ap (λ t. so_far ++ t) step.1 ∙ sym (append_assoc so_far (item ∷ []) (g.I.Items.items c.put-next.new.self))),
+          ∙ (ap (λ t. so_far ++ t) step.1 ∙ sym (append_assoc so_far (item ∷ []) (g.I.Items.items c.put_next.new.self))),
       puts_same (flat_map_more (λ x. x) [] so_far item) (puts_then (omega arith) inv.2 step.2),
       omega (arith, inv.3, length_push so_far item),
     )
@@ -27,10 +27,10 @@ loop-after-preserved g c =
 pub returns : goal.returns
 returns g c =
     let inv = c.loop-after.invariant in
-    let all = inv.1 ∙ (ap (λ t. inv.0 ++ t) c.in-default.ensures.0 ∙ append-nil inv.0) in
+    let all = inv.1 ∙ (ap (λ t. inv.0 ++ t) c.in_default.ensures.0 ∙ append-nil inv.0) in
     record {
       puts =
-          subst (λ out. Puts (together (g.I.Items.items c.args.list.now)) c.args.out.now c.args.at c.loop-after.next out) (sym c.in-default.ensures.1)
+          subst (λ out. Puts (together (g.I.Items.items c.args.list.now)) c.args.out.now c.args.at c.loop-after.next out) (sym c.in_default.ensures.1)
           (puts_same (ap together (sym all)) inv.2);
       count = omega (arith, inv.3, ap length all);
     }

@@ -7,4 +7,4 @@ use Rattle.put_facts.proofs.parts.put_above.Goals as goal
 pub returns : goal.returns
 returns c =
     puts_same (ap u16 (add-mod-mod c.args.base c.args.n 65536) ∙ bytes_low 2 (c.args.base + c.args.n))
-    (puts_number 2 _ c.put-u16.ensures.place c.put-u16.ensures.after)
+    (puts_number 2 _ c.put_u16.ensures.place c.put_u16.ensures.after)

@@ -7,8 +7,8 @@ use Rattle.put_facts.proofs.parts.put_id.Goals as goal
 pub returns : goal.returns
 unfolding bytes_of
 returns c =
-    let k : c.saturating-sub.result - 0 ≡ 20 - length c.args.id.now = omega (arith, c.saturating-sub.ensures) in
-    let zeros : ◌≡◌ {A = List ℕ} (take (c.saturating-sub.result - 0) (replicate 20 0)) (replicate (20 - length c.args.id.now) 0) =
+    let k : c.saturating_sub.result - 0 ≡ 20 - length c.args.id.now = omega (arith, c.saturating_sub.ensures) in
+    let zeros : ◌≡◌ {A = List ℕ} (take (c.saturating_sub.result - 0) (replicate 20 0)) (replicate (20 - length c.args.id.now) 0) =
     ap (λ n. take n (replicate 20 0)) k ∙ take-replicate (20 - length c.args.id.now) 20 0 (omega arith) in
     puts_then (omega arith)
     (record { goes = c.put-at.ensures.place; leaves = c.put-at.ensures.after })

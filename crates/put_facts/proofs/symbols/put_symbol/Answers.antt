@@ -6,7 +6,7 @@ use Rattle.put_facts.proofs.symbols.put_symbol.Goals as goal
 pub returns : goal.returns
 returns c =
     puts_then (omega arith)
-    (puts_number 8 _ c.put-u64-at.ensures.place c.put-u64-at.ensures.after)
+    (puts_number 8 _ c.put_u64-at.ensures.place c.put_u64-at.ensures.after)
     (puts_then (omega arith)
-    (puts_number 4 _ c.put-u32-at.ensures.place c.put-u32-at.ensures.after)
-    (puts_same (ap ended c.as-bytes.ensures.value) c.put-ended.ensures))
+    (puts_number 4 _ c.put_u32-at.ensures.place c.put_u32-at.ensures.after)
+    (puts_same (ap ended c.as_bytes.ensures.value) c.put_ended.ensures))

@@ -9,17 +9,17 @@ use Rattle.put_facts.proofs.tables.put_builds.Goals as goal
 
 pub returns : goal.returns
 returns g c =
-    let rows = c.build-ids-used.new.rows in
-    let used = c.build-ids-used.result in
+    let rows = c.build_ids-used.new.rows in
+    let used = c.build_ids-used.result in
     let store = c.args.store.now in
     let lines =
-    c.table-rows.ensures ∙ ap (λ s. answered (λ n. map (row_bytes s) (take n rows)) used) c.section-bytes-section.ensures in
+    c.table_rows.ensures ∙ ap (λ s. answered (λ n. map (row_bytes s) (take n rows)) used) c.section_bytes-section.ensures in
     record {
       writes =
           writes_same
-          (lines_tell together (λ t. map (row_bytes t.line.section.now) t.rows.now) _ c.table-rows.result used lines
+          (lines_tell together (λ t. map (row_bytes t.line.section.now) t.rows.now) _ c.table_rows.result used lines
           ∙ builds_tell (length c.args.rows.now) (g.S.Store.endian store) ((g.S.Store.map store).at 2) used rows
-          c.build-ids-used.ensures.is c.build-ids-used.ensures.after)
-          c.put-answer-r.ensures;
-      blank = c.blank-all.ensures ∙ ap blanks (omega arith);
+          c.build_ids-used.ensures.is c.build_ids-used.ensures.after)
+          c.put_answer-r.ensures;
+      blank = c.blank_all.ensures ∙ ap blanks (omega arith);
     }

@@ -13,19 +13,19 @@ use Rattle.put_facts.proofs.tables.put_names.Goals as goal
 pub returns : goal.returns
 unfolding write
 returns g c =
-    let rows = c.pmu-mappings-used.new.rows in
-    let used = c.pmu-mappings-used.result in
+    let rows = c.pmu_mappings-used.new.rows in
+    let used = c.pmu_mappings-used.result in
     let store = c.args.store.now in
     let section = (g.S.Store.map store).at 16 in
     let n = length c.args.rows.now in
     let lines =
-    c.table-rows.ensures ∙ ap (λ s. answered (λ n. map (λ r. name_bytes (entry_of key_of s r)) (take n rows)) used) c.section-bytes-section.ensures in
+    c.table_rows.ensures ∙ ap (λ s. answered (λ n. map (λ r. name_bytes (entry_of key_of s r)) (take n rows)) used) c.section_bytes-section.ensures in
     record {
       writes =
           writes_same
           (table_tells names with_count name_bytes (entry_of key_of (bytes_in section)) (counted-rows name_bytes (entry_of key_of (bytes_in section)))
-          (λ t. map (λ r. name_bytes (entry_of key_of t.line.section.now r)) t.rows.now) c.table-rows.result rows used
-          (λ o s. within 16 n (pmu_names o s)) (g.S.Store.endian store) section lines c.pmu-mappings-used.ensures.entries)
-          c.put-answer-r.ensures;
-      blank = c.blank-all.ensures ∙ ap blanks (omega arith);
+          (λ t. map (λ r. name_bytes (entry_of key_of t.line.section.now r)) t.rows.now) c.table_rows.result rows used
+          (λ o s. within 16 n (pmu_names o s)) (g.S.Store.endian store) section lines c.pmu_mappings-used.ensures.entries)
+          c.put_answer-r.ensures;
+      blank = c.blank_all.ensures ∙ ap blanks (omega arith);
     }

@@ -6,5 +6,5 @@ use Rattle.put_facts.proofs.lines.NamesLine.put_row.Goals as goal
 pub returns : goal.returns
 returns c =
     puts_then (omega arith)
-    (puts_number 4 _ c.put-u32-at.ensures.place c.put-u32-at.ensures.after)
-    (puts_same (ap text_bytes c.value.ensures) c.put-text.ensures)
+    (puts_number 4 _ c.put_u32-at.ensures.place c.put_u32-at.ensures.after)
+    (puts_same (ap text_bytes c.value.ensures) c.put_text.ensures)

@@ -5,4 +5,4 @@ use Rattle.put_facts.proofs.lines.PairsLine.put_row.Goals as goal
 
 pub returns : goal.returns
 returns c =
-    puts_then (omega arith) (puts_same (ap ended c.key.ensures) c.put-ended-at.ensures) (puts_same (ap ended c.value.ensures) c.put-ended.ensures)
+    puts_then (omega arith) (puts_same (ap ended c.key.ensures) c.put_ended-at.ensures) (puts_same (ap ended c.value.ensures) c.put_ended.ensures)

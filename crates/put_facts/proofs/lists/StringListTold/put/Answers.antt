@@ -5,4 +5,4 @@ use Rattle.put_facts.proofs.Mapped.{counted-map}
 use Rattle.put_facts.proofs.lists.StringListTold.put.Goals as goal
 
 pub returns : goal.returns
-returns c = puts_same (counted-map text_bytes (to_come c.args.self)) c.put-counted.ensures
+returns c = puts_same (counted-map text_bytes (to_come c.args.self)) c.put_counted.ensures

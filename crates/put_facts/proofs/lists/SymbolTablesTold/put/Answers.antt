@@ -5,4 +5,4 @@ use Rattle.put_facts.proofs.Mapped.{together-map}
 use Rattle.put_facts.proofs.lists.SymbolTablesTold.put.Goals as goal
 
 pub returns : goal.returns
-returns c = puts_same (together-map counted_file (files_of c.args.self)) c.put-items.ensures.puts
+returns c = puts_same (together-map counted_file (files_of c.args.self)) c.put_items.ensures.puts

@@ -5,5 +5,5 @@ use Rattle.put_facts.proofs.told.NrCpusTold.put.Goals as goal
 pub returns : goal.returns
 returns c =
     puts_then (omega arith)
-    (puts_number 4 _ c.put-u32-at.ensures.place c.put-u32-at.ensures.after)
-    (puts_number 4 _ c.put-u32.ensures.place c.put-u32.ensures.after)
+    (puts_number 4 _ c.put_u32-at.ensures.place c.put_u32-at.ensures.after)
+    (puts_number 4 _ c.put_u32.ensures.place c.put_u32.ensures.after)
