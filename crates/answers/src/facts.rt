@@ -3,10 +3,13 @@ use crate::common::{write_absent, write_refusal};
 use fixed_facts::feature_sections::{
     ClockData, ClockFrequency, CompressionInfo, NrCpus, SampleTimeRange, TotalMem,
 };
-use std::fmt;
+use std::alloc::AllocError;
 use wire::refusal::Refusal;
 
-pub fn write_cpus(out: &mut String, answer: Result<Option<NrCpus>, Refusal>) -> fmt::Result {
+pub fn write_cpus(
+    out: &mut String,
+    answer: Result<Option<NrCpus>, Refusal>,
+) -> Result<(), AllocError> {
     match answer {
         Ok(Some(fact)) => {
             let available = fact.nr_cpus_available;
@@ -18,7 +21,10 @@ pub fn write_cpus(out: &mut String, answer: Result<Option<NrCpus>, Refusal>) -> 
     }
 }
 
-pub fn write_memory(out: &mut String, answer: Result<Option<TotalMem>, Refusal>) -> fmt::Result {
+pub fn write_memory(
+    out: &mut String,
+    answer: Result<Option<TotalMem>, Refusal>,
+) -> Result<(), AllocError> {
     match answer {
         Ok(Some(fact)) => {
             let kilobytes = fact.kilobytes;
@@ -32,7 +38,7 @@ pub fn write_memory(out: &mut String, answer: Result<Option<TotalMem>, Refusal>)
 pub fn write_times(
     out: &mut String,
     answer: Result<Option<SampleTimeRange>, Refusal>,
-) -> fmt::Result {
+) -> Result<(), AllocError> {
     match answer {
         Ok(Some(fact)) => {
             let first = fact.first_sample_time;
@@ -47,7 +53,7 @@ pub fn write_times(
 pub fn write_frequency(
     out: &mut String,
     answer: Result<Option<ClockFrequency>, Refusal>,
-) -> fmt::Result {
+) -> Result<(), AllocError> {
     match answer {
         Ok(Some(fact)) => {
             let ns = fact.ns_per_tick;
@@ -61,7 +67,7 @@ pub fn write_frequency(
 pub fn write_compression(
     out: &mut String,
     answer: Result<Option<CompressionInfo>, Refusal>,
-) -> fmt::Result {
+) -> Result<(), AllocError> {
     match answer {
         Ok(Some(fact)) => {
             let version = fact.version;
@@ -76,7 +82,10 @@ pub fn write_compression(
     }
 }
 
-pub fn write_clock(out: &mut String, answer: Result<Option<ClockData>, Refusal>) -> fmt::Result {
+pub fn write_clock(
+    out: &mut String,
+    answer: Result<Option<ClockData>, Refusal>,
+) -> Result<(), AllocError> {
     match answer {
         Ok(Some(fact)) => {
             let clock = fact.clockid;
@@ -89,7 +98,7 @@ pub fn write_clock(out: &mut String, answer: Result<Option<ClockData>, Refusal>)
     }
 }
 
-pub fn write_stats(out: &mut String, is_stats: bool) -> fmt::Result {
+pub fn write_stats(out: &mut String, is_stats: bool) -> Result<(), AllocError> {
     if is_stats {
         return write!(out, "present");
     }

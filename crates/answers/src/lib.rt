@@ -27,7 +27,6 @@ use question::Question;
 use rows::{write_builds, write_meta, write_pmu};
 use simpleperf::questions::symbol_tables;
 use std::alloc::{AllocError, Global};
-use std::fmt;
 use symbols::write_tables;
 use table::row::Row;
 use texts::{write_text, write_texts};
@@ -42,7 +41,7 @@ pub fn all_rows(heap: Global) -> Result<Vec<Row>, AllocError>
     vec![in heap; Row::BLANK; MOST_ROWS as usize]
 }
 
-fn write_answer(out: &mut String, line: &Line<'_>, rows: &mut [Row]) -> fmt::Result {
+fn write_answer(out: &mut String, line: &Line<'_>, rows: &mut [Row]) -> Result<(), AllocError> {
     match line.question {
         Question::Hostname => write_text(out, hostname(&line.store(3))),
         Question::OsRelease => write_text(out, os_release(&line.store(4))),

@@ -4,11 +4,11 @@ use crate::line::Line;
 use crate::rows::{kind_of, write_name};
 use dso_key::cpu_mode::CpuMode;
 use dso_key::dso_key::DsoKey;
-use std::fmt;
+use std::alloc::AllocError;
 use text::shown::Shown;
 
 // The place of the rows holds the misc.
-pub fn write_detect(out: &mut String, line: &Line<'_>) -> fmt::Result {
+pub fn write_detect(out: &mut String, line: &Line<'_>) -> Result<(), AllocError> {
     let path = line.section.unwrap_or(&[]);
     match DsoKey::detect(path, CpuMode::of(line.rows % 8)) {
         Some(key) => {
@@ -21,7 +21,7 @@ pub fn write_detect(out: &mut String, line: &Line<'_>) -> fmt::Result {
     }
 }
 
-pub fn write_shown(out: &mut String, line: &Line<'_>) -> fmt::Result {
+pub fn write_shown(out: &mut String, line: &Line<'_>) -> Result<(), AllocError> {
     let bytes = line.section.unwrap_or(&[]);
     write!(out, "text x")?;
     for byte in Shown::new(bytes) {

@@ -7,7 +7,7 @@ use dso_key::dso_key::DsoKey;
 use hexadecimal::Hex;
 use mappings::meta_info::{meta_entry, meta_info};
 use mappings::pmu_mappings::{pmu_entry, pmu_mappings};
-use std::fmt;
+use std::alloc::AllocError;
 use table::row::Row;
 
 // The kind of a key, by its name in the code.
@@ -25,14 +25,14 @@ pub fn kind_of(key: DsoKey<'_>) -> &'static str {
 }
 
 // The bytes of a key's name, in hexadecimal.
-pub fn write_name(out: &mut String, key: DsoKey<'_>) -> fmt::Result {
+pub fn write_name(out: &mut String, key: DsoKey<'_>) -> Result<(), AllocError> {
     for byte in key.name() {
         write!(out, "{byte:02x}")?;
     }
     Ok(())
 }
 
-pub fn write_pmu(out: &mut String, line: &Line<'_>, rows: &mut [Row]) -> fmt::Result {
+pub fn write_pmu(out: &mut String, line: &Line<'_>, rows: &mut [Row]) -> Result<(), AllocError> {
     let store = line.store(16);
     match pmu_mappings(&store, rows) {
         Err(refusal) => write_refusal(out, refusal),
@@ -51,7 +51,7 @@ pub fn write_pmu(out: &mut String, line: &Line<'_>, rows: &mut [Row]) -> fmt::Re
     }
 }
 
-pub fn write_meta(out: &mut String, line: &Line<'_>, rows: &mut [Row]) -> fmt::Result {
+pub fn write_meta(out: &mut String, line: &Line<'_>, rows: &mut [Row]) -> Result<(), AllocError> {
     let store = line.store(129);
     match meta_info(&store, rows) {
         Err(refusal) => write_refusal(out, refusal),
@@ -70,7 +70,7 @@ pub fn write_meta(out: &mut String, line: &Line<'_>, rows: &mut [Row]) -> fmt::R
     }
 }
 
-fn write_build(out: &mut String, builds: &Builds<'_>, row: &Row) -> fmt::Result {
+fn write_build(out: &mut String, builds: &Builds<'_>, row: &Row) -> Result<(), AllocError> {
     if let Some(key) = builds.key(row) {
         let kind = kind_of(key);
         write!(out, " {kind}:x")?;
@@ -82,7 +82,7 @@ fn write_build(out: &mut String, builds: &Builds<'_>, row: &Row) -> fmt::Result 
     Ok(())
 }
 
-pub fn write_builds(out: &mut String, line: &Line<'_>, rows: &mut [Row]) -> fmt::Result {
+pub fn write_builds(out: &mut String, line: &Line<'_>, rows: &mut [Row]) -> Result<(), AllocError> {
     let store = line.store(2);
     match build_ids(&store, rows) {
         Err(refusal) => write_refusal(out, refusal),

@@ -6,10 +6,10 @@ use simpleperf::file::SimpleperfFileRecord;
 use simpleperf::info::SimpleperfTypeSpecificInfo;
 use simpleperf::symbol::SymbolList;
 use simpleperf::tables::SymbolTables;
-use std::fmt;
+use std::alloc::AllocError;
 use wire::refusal::Refusal;
 
-fn write_offsets(out: &mut String, offsets: OffsetList<'_>) -> fmt::Result {
+fn write_offsets(out: &mut String, offsets: OffsetList<'_>) -> Result<(), AllocError> {
     let mut is_first = true;
     for offset in offsets {
         if !is_first {
@@ -21,7 +21,10 @@ fn write_offsets(out: &mut String, offsets: OffsetList<'_>) -> fmt::Result {
     Ok(())
 }
 
-fn write_info(out: &mut String, info: Option<SimpleperfTypeSpecificInfo<'_>>) -> fmt::Result {
+fn write_info(
+    out: &mut String,
+    info: Option<SimpleperfTypeSpecificInfo<'_>>,
+) -> Result<(), AllocError> {
     match info {
         None => write!(out, "-")?,
         Some(SimpleperfTypeSpecificInfo::SimpleperfDexFileInfo(dex)) => {
@@ -40,7 +43,7 @@ fn write_info(out: &mut String, info: Option<SimpleperfTypeSpecificInfo<'_>>) ->
     Ok(())
 }
 
-fn write_symbols(out: &mut String, symbols: SymbolList<'_>) -> fmt::Result {
+fn write_symbols(out: &mut String, symbols: SymbolList<'_>) -> Result<(), AllocError> {
     if symbols.count() == 0 {
         write!(out, "-")?;
     }
@@ -58,7 +61,7 @@ fn write_symbols(out: &mut String, symbols: SymbolList<'_>) -> fmt::Result {
     Ok(())
 }
 
-fn write_file(out: &mut String, file: SimpleperfFileRecord<'_>) -> fmt::Result {
+fn write_file(out: &mut String, file: SimpleperfFileRecord<'_>) -> Result<(), AllocError> {
     let path = Hex(file.path.as_bytes());
     let file_type = file.file_type;
     let lowest = file.min_vaddr;
@@ -71,7 +74,7 @@ fn write_file(out: &mut String, file: SimpleperfFileRecord<'_>) -> fmt::Result {
 pub fn write_tables(
     out: &mut String,
     answer: Result<Option<SymbolTables<'_>>, Refusal>,
-) -> fmt::Result {
+) -> Result<(), AllocError> {
     match answer {
         Err(refusal) => write_refusal(out, refusal),
         Ok(None) => write_absent(out),

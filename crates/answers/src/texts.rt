@@ -2,10 +2,13 @@
 use crate::common::{write_absent, write_refusal};
 use hexadecimal::Hex;
 use perf_data::string_list::StringList;
-use std::fmt;
+use std::alloc::AllocError;
 use wire::refusal::Refusal;
 
-pub fn write_text(out: &mut String, answer: Result<Option<&str>, Refusal>) -> fmt::Result {
+pub fn write_text(
+    out: &mut String,
+    answer: Result<Option<&str>, Refusal>,
+) -> Result<(), AllocError> {
     match answer {
         Ok(Some(text)) => {
             let bytes = Hex(text.as_bytes());
@@ -19,7 +22,7 @@ pub fn write_text(out: &mut String, answer: Result<Option<&str>, Refusal>) -> fm
 pub fn write_texts(
     out: &mut String,
     answer: Result<Option<StringList<'_>>, Refusal>,
-) -> fmt::Result {
+) -> Result<(), AllocError> {
     match answer {
         Ok(Some(texts)) => {
             let count = texts.count();

@@ -8,8 +8,8 @@ use Rattle.head.proofs.head.write_entries.Goals as goal
 pub loop-feature-init : goal.loop-feature-init
 loop-feature-init g c = (going_none _ _ _, omega arith)
 
-pub write-entry-requires : goal.write-entry-requires
-write-entry-requires g c =
+pub write_entry-requires : goal.write_entry-requires
+write_entry-requires g c =
     let low : c.loop-feature.end < 2 ^ 39 = omega (arith, c.loop-feature.invariant.1) in
     search rules
 
@@ -18,16 +18,16 @@ loop-feature-preserved g c =
     let answers = λ (n : ℕ). answer n (g.S.Store.endian c.args.store.now) (g.S.Store.map c.args.store.now).at in
     let f = get_or c.args.features.now c.loop-feature.feature-index BuildId in (
       entries-more (answers (length c.args.rows.now)) c.args.features.now c.loop-feature.feature-index c.loop-feature.invariant.0 (omega arith)
-          (as_many answers f c.loop-feature.auto.rows c.in-ok-end.ensures.wrote),
-      omega (arith, c.loop-feature.invariant.1, c.in-ok-end.ensures.short),
+          (as_many answers f c.loop-feature.auto.rows c.in_ok-end.ensures.wrote),
+      omega (arith, c.loop-feature.invariant.1, c.in_ok-end.ensures.short),
     )
 
-pub returns-in-err-end : goal.returns-in-err-end
-returns-in-err-end g c =
+pub returns-in_err-end : goal.returns-in_err-end
+returns-in_err-end g c =
     let answers = λ (n : ℕ). answer n (g.S.Store.endian c.args.store.now) (g.S.Store.map c.args.store.now).at in
     let f = get_or c.args.features.now c.loop-feature.feature-index BuildId in
-    entries-fault (answers (length c.args.rows.now)) c.args.features.now c.loop-feature.feature-index c.loop-feature.invariant.0 c.from-residual.result _ (omega arith)
-    c.from-residual.ensures.1 (as_many answers f c.loop-feature.auto.rows c.in-err-end.ensures.wrote)
+    entries-fault (answers (length c.args.rows.now)) c.args.features.now c.loop-feature.feature-index c.loop-feature.invariant.0 c.from_residual.result _ (omega arith)
+    c.from_residual.ensures.1 (as_many answers f c.loop-feature.auto.rows c.in_err-end.ensures.wrote)
 
 pub returns : goal.returns
 returns g c =

@@ -8,7 +8,7 @@ pub returns : goal.returns
 returns g c =
     let o = g.S.Store.endian c.args.store.now in
     let m = g.S.Store.map c.args.store.now in
-    let same = c.write-whole.auto.rows in
-    let a = head-fits (head_of (length c.args.rows.now) o m.at) c.args.out.now c.in-ok-len.len c.in-ok-len.ensures (omega arith)
-    (subst (λ (n : ℕ). Wrote (head_of n o m.at) 0 c.args.out.now c.write-whole-2.result c.write-whole-2.new.out) same c.write-whole-2.ensures) in
+    let same = c.write_whole.auto.rows in
+    let a = head-fits (head_of (length c.args.rows.now) o m.at) c.args.out.now c.in_ok-len.len c.in_ok-len.ensures (omega arith)
+    (subst (λ (n : ℕ). Wrote (head_of n o m.at) 0 c.args.out.now c.write_whole-2.result c.write_whole-2.new.out) same c.write_whole-2.ensures) in
     record { answer = a.answer; after = a.after }

@@ -9,5 +9,5 @@ pub returns : goal.returns
 returns g c =
     let n = length c.args.rows.now in
     let long : length c.file.new.rows ≡ n = ap length c.file.ensures.rows ∙ length-replicate n blank in
-    subst (λ (k : ℕ). Decides (eqb c.in-ok-first.first c.in-ok-second.second) (Alike n (g.S.Store.endian c.args.x.now) (g.S.Store.map c.args.x.now).at k (g.T.Store.endian c.args.y.now) (g.T.Store.map c.args.y.now).at)) long
-    (two_filings _ _ c.in-ok-first.first c.in-ok-second.second _ _ _ c.open-shelf.ensures.law c.in-ok-first.ensures.law c.in-ok-second.ensures.law)
+    subst (λ (k : ℕ). Decides (eqb c.in_ok-first.first c.in_ok-second.second) (Alike n (g.S.Store.endian c.args.x.now) (g.S.Store.map c.args.x.now).at k (g.T.Store.endian c.args.y.now) (g.T.Store.map c.args.y.now).at)) long
+    (two_filings _ _ c.in_ok-first.first c.in_ok-second.second _ _ _ c.open-shelf.ensures.law c.in_ok-first.ensures.law c.in_ok-second.ensures.law)

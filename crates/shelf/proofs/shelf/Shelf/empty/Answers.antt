@@ -7,8 +7,8 @@ use Rattle.shelf.specs.Calls.{strips_in}
 use Rattle.shelf.proofs.Openings.{all_free, emptied, strips_fit}
 use Rattle.shelf.proofs.shelf.Shelf.empty.Goals as goal
 
-pub invariant-of-result : goal.invariant-of-result
-invariant-of-result c =
+pub invariant_of-result : goal.invariant_of-result
+invariant_of-result c =
     let strips : c.min-strips.result ≡ strips_in (vec_len c.args.bytes) c.args.strip = search rules in
     (refl, (omega arith, (subst (λ (n : ℕ). n * c.args.strip ≤ vec_len c.args.bytes) (sym strips) (strips_fit (vec_len c.args.bytes) c.args.strip), ((λ j. omega (arith, ap (λ (g : Group). g.len) (all_free 64 j))), tt))))
 
@@ -17,7 +17,7 @@ returns c =
     let strip = c.args.strip in
     let room = vec_len c.args.bytes in
     let strips : c.min-strips.result ≡ strips_in room strip = search rules in
-    let wiped : c.wipe.new.out ≡ replicate room 0 = c.wipe.ensures ∙ ap (λ (n : ℕ). replicate n 0) c.deref-mut.ensures.len in
+    let wiped : c.wipe.new.out ≡ replicate room 0 = c.wipe.ensures ∙ ap (λ (n : ℕ). replicate n 0) c.deref_mut.ensures.len in
     ap (contents_of strip c.min-strips.result c.args.first (replicate 64 free)) (with_items_is c.args.bytes c.wipe.new.out (ap length wiped ∙ length-replicate {A = ℕ} room 0) ∙ wiped)
     ∙ ap (λ (n : ℕ). contents_of strip n c.args.first (replicate 64 free) (replicate room 0)) strips
     ∙ emptied strip (strips_in room strip) c.args.first room (replicate 64 free) (all_free 64) (strips_fit room strip)

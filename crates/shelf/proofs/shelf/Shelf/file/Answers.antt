@@ -6,7 +6,7 @@ use Rattle.shelf.proofs.shelf.Shelf.file.Goals as goal
 
 pub returns : goal.returns
 returns g c =
-    let done = c.take-in-number.ensures in
+    let done = c.take_in-number.ensures in
     record {
       answer = done.answer;
       after = done.after;

@@ -5,8 +5,8 @@ use Rattle.shelf.specs.Rows.{Row, free}
 use Rattle.shelf.proofs.Places.{strip_end, row_on}
 use Rattle.shelf.proofs.shelf.Shelf.head_at.Goals as goal
 
-pub slice-bounds-result-end : goal.slice-bounds-result-end
-slice-bounds-result-end c =
+pub slice_bounds-result-end : goal.slice_bounds-result-end
+slice_bounds-result-end c =
     let s = c.args.self.now in
     omega (arith, strip_end c.args.i s.strips s.strip c.requires, s.within c.args.i, s.room, c.deref.ensures.len)
 

@@ -13,7 +13,7 @@ returns-then-self-i-gt0 c =
     let s = c.args.self.now in
     let hd = c.args.head.now in
     let r = row_in (contents s) c.args.i in
-    let same : c.same.result ≡ bytes_eq r.head hd = same_from_decides _ _ (rw c.head-at.ensures at c.same.ensures) (bytes_eq-Decides r.head hd) in
+    let same : c.same.result ≡ bytes_eq r.head hd = same_from_decides _ _ (rw c.head_at.ensures at c.same.ensures) (bytes_eq-Decides r.head hd) in
     let held : ltb 0 r.number ≡ true = lt-ltb 0 r.number (rw (ap (λ (x : Row). x.number) (row_on s c.args.i c.requires)) c.if-self-i-gt0.true) in
     rw held same
 

@@ -13,7 +13,7 @@ returns-then-count-gt1 c =
     let e = ap (λ (r : Row). r.count) (row_on s c.in-Some.i found.within) in
     record {
       answer = ap release_at found.place;
-      after = c.set-count.ensures ∙ lowered-one (contents s) c.in-Some.i _ (omega (arith, e)) (ap (λ n. n - 1) (sym e)) ∙ ap (lowered_at (contents s)) found.place;
+      after = c.set_count.ensures ∙ lowered-one (contents s) c.in-Some.i _ (omega (arith, e)) (ap (λ n. n - 1) (sym e)) ∙ ap (lowered_at (contents s)) found.place;
     }
 
 pub returns-else-count-gt1 : goal.returns-else-count-gt1

@@ -7,17 +7,17 @@ use Rattle.shelf.specs.Contents.{contents}
 use Rattle.shelf.proofs.Rooms.{refused_there, accepted_there, crowded_out, made_there}
 use Rattle.shelf.proofs.shelf.Shelf.make_head.Goals as goal
 
-pub returns-in-err-len : goal.returns-in-err-len
-returns-in-err-len g c =
+pub returns-in_err-len : goal.returns-in_err-len
+returns-in_err-len g c =
     let s = c.args.self.now in
     let work = c.args.work.now in
     let made : Result (List ℕ) Fault = head_of (length c.args.rows.now) (g.S.Store.endian c.args.store.now) (g.S.Store.map c.args.store.now).at in
     let lent : length (take (c.min-room.result - 0) work) ≡ min (length work) s.strip = length-take-le (c.min-room.result - 0) work (omega arith) ∙ search rules in
-    let p = err_from_is_err_and c.from-residual.result c.from-residual.ensures.1 in
+    let p = err_from_is_err_and c.from_residual.result c.from_residual.ensures.1 in
     record {
-      answer = rw (p.1, p.2) (refused_there (contents s) (length work) _ made lent _ c.in-err-len.ensures.answer);
-      made = λ h f. made_there (contents s) (length work) made h (take (c.min-room.result - 0) work) c.write-head.new.out _ lent c.write-head.ensures.after f;
-      rows = c.write-head.ensures.rows;
+      answer = rw (p.1, p.2) (refused_there (contents s) (length work) _ made lent _ c.in_err-len.ensures.answer);
+      made = λ h f. made_there (contents s) (length work) made h (take (c.min-room.result - 0) work) c.write_head.new.out _ lent c.write_head.ensures.after f;
+      rows = c.write_head.ensures.rows;
     }
 
 pub returns-then-given-self : goal.returns-then-given-self
@@ -27,9 +27,9 @@ returns-then-given-self g c =
     let made : Result (List ℕ) Fault = head_of (length c.args.rows.now) (g.S.Store.endian c.args.store.now) (g.S.Store.map c.args.store.now).at in
     let lent : length (take (c.min-room.result - 0) work) ≡ min (length work) s.strip = length-take-le (c.min-room.result - 0) work (omega arith) ∙ search rules in
     record {
-      answer = crowded_out (contents s) (length work) _ made lent c.in-ok-len.len c.if-given-self.true c.in-ok-len.ensures.answer;
-      made = λ h f. made_there (contents s) (length work) made h (take (c.min-room.result - 0) work) c.write-head.new.out _ lent c.write-head.ensures.after f;
-      rows = c.write-head.ensures.rows;
+      answer = crowded_out (contents s) (length work) _ made lent c.in_ok-len.len c.if-given-self.true c.in_ok-len.ensures.answer;
+      made = λ h f. made_there (contents s) (length work) made h (take (c.min-room.result - 0) work) c.write_head.new.out _ lent c.write_head.ensures.after f;
+      rows = c.write_head.ensures.rows;
     }
 
 pub returns : goal.returns
@@ -39,7 +39,7 @@ returns g c =
     let made : Result (List ℕ) Fault = head_of (length c.args.rows.now) (g.S.Store.endian c.args.store.now) (g.S.Store.map c.args.store.now).at in
     let lent : length (take (c.min-room.result - 0) work) ≡ min (length work) s.strip = length-take-le (c.min-room.result - 0) work (omega arith) ∙ search rules in
     record {
-      answer = accepted_there (contents s) (length work) _ made lent c.in-ok-len.len c.if-given-self.false c.in-ok-len.ensures.answer;
-      made = λ h f. made_there (contents s) (length work) made h (take (c.min-room.result - 0) work) c.write-head.new.out _ lent c.write-head.ensures.after f;
-      rows = c.write-head.ensures.rows;
+      answer = accepted_there (contents s) (length work) _ made lent c.in_ok-len.len c.if-given-self.false c.in_ok-len.ensures.answer;
+      made = λ h f. made_there (contents s) (length work) made h (take (c.min-room.result - 0) work) c.write_head.new.out _ lent c.write_head.ensures.after f;
+      rows = c.write_head.ensures.rows;
     }

@@ -20,19 +20,19 @@ returns-in-Some c =
     let e = ap (λ (r : Row). r.count) (row_on s i c.in-Some.ensures.within) in
     sym (cond-true _ _ _ (lt-ltb (row_in (contents s) i).count 4294967295 (omega (arith, e)))) ∙ seat_joins (contents s) c.args.head.now _ c.in-Some.ensures.place
 
-pub returns-in-default-numbered : goal.returns-in-default-numbered
-returns-in-default-numbered c =
+pub returns-in_default-numbered : goal.returns-in_default-numbered
+returns-in_default-numbered c =
     let s = c.args.self.now in
-    seat_takes (contents s) c.args.head.now _ c.in-default.ensures.place c.in-default-numbered.ensures.place
+    seat_takes (contents s) c.args.head.now _ c.in_default.ensures.place c.in_default-numbered.ensures.place
 
 pub returns-then-self : goal.returns-then-self
 returns-then-self c =
     let s = c.args.self.now in
     sym (cond-false _ _ _ (le-ltb s.next 4294967296 (omega arith)))
-    ∙ seat_takes (contents s) c.args.head.now _ c.in-default.ensures.place c.in-Some-numbered.ensures.place
+    ∙ seat_takes (contents s) c.args.head.now _ c.in_default.ensures.place c.in-Some-numbered.ensures.place
 
 pub returns : goal.returns
 returns c =
     let s = c.args.self.now in
     sym (cond-true _ _ _ (lt-ltb s.next 4294967296 (omega arith)))
-    ∙ seat_takes (contents s) c.args.head.now _ c.in-default.ensures.place c.in-Some-numbered.ensures.place
+    ∙ seat_takes (contents s) c.args.head.now _ c.in_default.ensures.place c.in-Some-numbered.ensures.place

@@ -10,8 +10,8 @@ keep-requires g c =
     let e = ap (λ (r : Row). r.number) (row_on c.args.self.now c.args.i c.requires.place) in
     ((refl, tt), (c.requires.place, (c.requires.number (e ∙ c.if-group-eq0.true), c.requires.fits)))
 
-pub overflow-add-group : goal.overflow-add-group
-overflow-add-group g c =
+pub overflow_add-group : goal.overflow_add-group
+overflow_add-group g c =
     let r = row_on c.args.self.now c.args.i c.requires.place in
     let n = ap (λ (x : Row). x.number) r in
     let k = ap (λ (x : Row). x.count) r in
@@ -36,6 +36,6 @@ returns-else-group-eq0 g c =
     let held : (row_in (contents s) c.args.i).number ≡ 0 → ⊥ = λ z. c.if-group-eq0.false (sym n ∙ z) in
     record {
       number = sym n ∙ number-held (contents s) c.args.i held;
-      seated = λ h f l. c.set-count.ensures ∙ seated-held (contents s) c.args.i held h _ (ap (λ (x : Row). x.count + 1) (sym r));
+      seated = λ h f l. c.set_count.ensures ∙ seated-held (contents s) c.args.i held h _ (ap (λ (x : Row). x.count + 1) (sym r));
       rows = λ b. b;
     }

@@ -6,5 +6,5 @@ use Rattle.shelf.proofs.shelf.Shelf.show.Goals as goal
 
 pub returns : goal.returns
 returns c =
-    let done = c.write-out.ensures in
+    let done = c.write_out.ensures in
     record { answer = done.answer; after = done.after; law = continues heads_speak _ (shown _ _ _ _) _ (done.answer, done.after, refl) }

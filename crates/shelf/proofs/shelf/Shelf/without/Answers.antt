@@ -3,5 +3,5 @@ use Rattle.shelf.specs.declared.shelf.Group.{Group}
 use Rattle.shelf.proofs.Openings.{all_free}
 use Rattle.shelf.proofs.shelf.Shelf.without.Goals as goal
 
-pub invariant-of-result : goal.invariant-of-result
-invariant-of-result c = (refl, (omega arith, (omega arith, ((λ j. omega (arith, ap (λ (g : Group). g.len) (all_free 64 j))), tt))))
+pub invariant_of-result : goal.invariant_of-result
+invariant_of-result c = (refl, (omega arith, (omega arith, ((λ j. omega (arith, ap (λ (g : Group). g.len) (all_free 64 j))), tt))))
