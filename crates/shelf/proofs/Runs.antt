@@ -37,10 +37,10 @@ all_blank strip first room j =
 
 -- as there is none on a shelf that was just opened
 start : (strip first : ℕ) (bytes : List ℕ) → InvOf [] (opening strip first bytes)
-start strip first bytes = ⊎_elim in_bounds out (cases_Bool (in_bounds strip first (length bytes)))
+start strip first bytes = ⊎_elim inside out (cases_Bool (in_bounds strip first (length bytes)))
   where
-    in_bounds : in_bounds strip first (length bytes) ≡ true → InvOf [] (opening strip first bytes)
-    in_bounds t =
+    inside : in_bounds strip first (length bytes) ≡ true → InvOf [] (opening strip first bytes)
+    inside t =
         let b = (and_parts (leb 1 first) (leb strip (length bytes)) (and_parts (leb 5 strip && leb strip 65536) (leb 1 first && leb strip (length bytes)) t).1).0 in
         rw t (bare (empty strip first (length bytes)) (leb-true 1 first b) (all_blank strip first (length bytes)))
 

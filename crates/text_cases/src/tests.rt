@@ -17,7 +17,7 @@ fn reads_to_the_nul(rt: HostRuntime) -> Result<(), Fail> {
 fn reads_the_length_in_its_order(rt: HostRuntime) -> Result<(), Fail> {
     let (text, rest) = read_string(ByteOrder::Big, b"\0\0\0\x01ab")?;
     assert!(rt; text == "a");
-    assert!(rt; rest == b"b");
+    assert!(rt; rest == b"b".as_slice());
     assert_eq!(rt;
         read_string(ByteOrder::Little, b"\0\0\0\x01ab").err(),
         Some(TextFault::PastEnd)

@@ -32,11 +32,11 @@ impl Shelf {
         rows: &mut [Row],
         work: &mut [u8],
     ) -> Result<u32, Refusal>
-        ensures answer { outcome result ≡ file_answer (contents self.old) (head_for (contents self.old) (length work.old) (head_of (length rows.old) (endian store.now) (map store.now).at)) }
-        ensures after { contents self.new ≡ file_after (contents self.old) (head_for (contents self.old) (length work.old) (head_of (length rows.old) (endian store.now) (map store.now).at)) }
+        ensures answer { outcome result ≡ file_answer (contents self.old) (head_for (contents self.old) (length work.old) (head_of (length rows.old) (S.endian store.now) (S.map store.now).at)) }
+        ensures after { contents self.new ≡ file_after (contents self.old) (head_for (contents self.old) (length work.old) (head_of (length rows.old) (S.endian store.now) (S.map store.now).at)) }
         ensures rows { rows.new ≡ blanks (length rows.old) }
         ensures work { work.new ≡ replicate (length work.old) 0 }
-        ensures law { Continues (contents self.old) (Event.filed (filing (length rows.old) (length work.old) (endian store.now) (map store.now)) (outcome result)) (contents self.new) }
+        ensures law { Continues (contents self.old) (Event.filed (filing (length rows.old) (length work.old) (S.endian store.now) (S.map store.now)) (outcome result)) (contents self.new) }
     {
         let number = self.take_in(store, rows, work);
         wipe(work);

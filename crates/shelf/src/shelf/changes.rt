@@ -58,7 +58,7 @@ impl Shelf {
         requires number { self.old.next < 4294967296 }
         requires fits { len ≤ self.old.strip }
         ensures number { result ≡ self.old.next }
-        ensures kept { (h : List ℕ) → fitted self.old.strip (head_of (length rows.old) (endian store.now) (map store.now).at) ≡ Ok h → len ≡ length h → contents self.new ≡ handed_out (put (contents self.old) i (fresh self.old.strip result h)) }
+        ensures kept { (h : List ℕ) → fitted self.old.strip (head_of (length rows.old) (S.endian store.now) (S.map store.now).at) ≡ Ok h → len ≡ length h → contents self.new ≡ handed_out (put (contents self.old) i (fresh self.old.strip result h)) }
         ensures rows { rows.new ≡ blanks (length rows.old) }
     {
         let from = i * self.strip;

@@ -19,8 +19,8 @@ impl Shelf {
         rows: &mut [Row],
         work: &mut [u8],
     ) -> Result<usize, Refusal>
-        ensures answer { outcome result ≡ length_of (head_for (contents self.now) (length work.old) (head_of (length rows.old) (endian store.now) (map store.now).at)) }
-        ensures made { (h : List ℕ) → head_for (contents self.now) (length work.old) (head_of (length rows.old) (endian store.now) (map store.now).at) ≡ Ok h → take (length h) work.new ≡ h }
+        ensures answer { outcome result ≡ length_of (head_for (contents self.now) (length work.old) (head_of (length rows.old) (S.endian store.now) (S.map store.now).at)) }
+        ensures made { (h : List ℕ) → head_for (contents self.now) (length work.old) (head_of (length rows.old) (S.endian store.now) (S.map store.now).at) ≡ Ok h → take (length h) work.new ≡ h }
         ensures rows { rows.new ≡ blanks (length rows.old) }
     {
         let given = work.len();
@@ -58,7 +58,7 @@ impl Shelf {
         requires number { (row_in (contents self.old) i).number ≡ 0 → self.old.next < 4294967296 }
         requires count { 1 ≤ (row_in (contents self.old) i).number → (row_in (contents self.old) i).count < 4294967295 }
         ensures number { result ≡ number_at (contents self.old) i }
-        ensures seated { (h : List ℕ) → fitted self.old.strip (head_of (length rows.old) (endian store.now) (map store.now).at) ≡ Ok h → len ≡ length h → contents self.new ≡ seated (contents self.old) h i }
+        ensures seated { (h : List ℕ) → fitted self.old.strip (head_of (length rows.old) (S.endian store.now) (S.map store.now).at) ≡ Ok h → len ≡ length h → contents self.new ≡ seated (contents self.old) h i }
         ensures rows { rows.old ≡ blanks (length rows.old) → rows.new ≡ blanks (length rows.old) }
     {
         let group = self.groups[i];
@@ -77,8 +77,8 @@ impl Shelf {
         rows: &mut [Row],
         work: &mut [u8],
     ) -> Result<u32, Refusal>
-        ensures answer { outcome result ≡ file_answer (contents self.old) (head_for (contents self.old) (length work.old) (head_of (length rows.old) (endian store.now) (map store.now).at)) }
-        ensures after { contents self.new ≡ file_after (contents self.old) (head_for (contents self.old) (length work.old) (head_of (length rows.old) (endian store.now) (map store.now).at)) }
+        ensures answer { outcome result ≡ file_answer (contents self.old) (head_for (contents self.old) (length work.old) (head_of (length rows.old) (S.endian store.now) (S.map store.now).at)) }
+        ensures after { contents self.new ≡ file_after (contents self.old) (head_for (contents self.old) (length work.old) (head_of (length rows.old) (S.endian store.now) (S.map store.now).at)) }
         ensures rows { rows.new ≡ blanks (length rows.old) }
     {
         let len = self.make_head(store, rows, work)?;

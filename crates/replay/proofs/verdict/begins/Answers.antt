@@ -5,8 +5,8 @@ use Rattle.std.proofs.lemmas.Bool.Decides.{Decides-eqb}
 
 pub returns : goal.returns
 returns c =
-    let text = c.as-bytes.result.now in
-    let front = c.as-bytes-2.result.now in
+    let text = c.as_bytes.result.now in
+    let front = c.as_bytes-2.result.now in
     let here = take (length front) text in
-    let decides = slice_eq-Decides Decides-eqb front here c.starts-with.result c.starts-with.ensures.value in
+    let decides = slice_eq-Decides Decides-eqb front here c.starts_with.result c.starts_with.ensures.value in
     search (rules, bytes_eq-Decides front here)

@@ -14,7 +14,7 @@ slice_bounds-wipe-end c =
 pub invariant_of-self : goal.invariant_of-self
 invariant_of-self c =
     let s = c.args.self.now in
-    (length-set s.groups c.args.i free ∙ s.places, (s.few, (s.room, (within_set s.strip s.groups c.args.i free s.within (omega arith), tt))))
+    record { places = length-set s.groups c.args.i free ∙ s.places; few = s.few; room = s.room; within = within_set s.strip s.groups c.args.i free s.within (omega arith) }
 
 pub returns : goal.returns
 returns c =

@@ -10,7 +10,7 @@ use Rattle.shelf.proofs.shelf.Shelf.empty.Goals as goal
 pub invariant_of-result : goal.invariant_of-result
 invariant_of-result c =
     let strips : c.min-strips.result ≡ strips_in (vec_len c.args.bytes) c.args.strip = search rules in
-    (refl, (omega arith, (subst (λ (n : ℕ). n * c.args.strip ≤ vec_len c.args.bytes) (sym strips) (strips_fit (vec_len c.args.bytes) c.args.strip), ((λ j. omega (arith, ap (λ (g : Group). g.len) (all_free 64 j))), tt))))
+    record { places = refl; few = omega arith; room = subst (λ (n : ℕ). n * c.args.strip ≤ vec_len c.args.bytes) (sym strips) (strips_fit (vec_len c.args.bytes) c.args.strip); within = λ j. omega (arith, ap (λ (g : Group). g.len) (all_free 64 j)) }
 
 pub returns : goal.returns
 returns c =

@@ -19,7 +19,7 @@ pub invariant_of-self : goal.invariant_of-self
 invariant_of-self g c =
     let s = c.args.self.now in
     let new : Group = record { number = s.next; count = 1; len = c.args.len } in
-    (length-set s.groups c.args.i new ∙ s.places, (s.few, (s.room, (within_set s.strip s.groups c.args.i new s.within c.requires.fits, tt))))
+    record { places = length-set s.groups c.args.i new ∙ s.places; few = s.few; room = s.room; within = within_set s.strip s.groups c.args.i new s.within c.requires.fits }
 
 pub returns : goal.returns
 returns g c =

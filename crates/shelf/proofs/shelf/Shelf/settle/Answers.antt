@@ -1,4 +1,4 @@
-use Rattle.std.proofs.Common.{◌≡◌, ◌+◌, ◌≤◌, sym, refl, ap, ◌∙◌, arith}
+use Rattle.std.proofs.Common.{◌≡◌, ◌+◌, ◌≤◌, sym, ap, ◌∙◌, arith, rules}
 use Rattle.shelf.specs.Rows.{Row}
 use Rattle.shelf.specs.Contents.{contents, row_in}
 use Rattle.shelf.proofs.Places.{row_on}
@@ -8,7 +8,8 @@ use Rattle.shelf.proofs.shelf.Shelf.settle.Goals as goal
 pub keep-requires : goal.keep-requires
 keep-requires g c =
     let e = ap (λ (r : Row). r.number) (row_on c.args.self.now c.args.i c.requires.place) in
-    ((refl, tt), (c.requires.place, (c.requires.number (e ∙ c.if-group-eq0.true), c.requires.fits)))
+    let n = c.requires.number (e ∙ c.if-group-eq0.true) in
+    search (rules, n)
 
 pub overflow_add-group : goal.overflow_add-group
 overflow_add-group g c =

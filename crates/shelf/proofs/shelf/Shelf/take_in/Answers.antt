@@ -1,4 +1,4 @@
-use Rattle.std.proofs.Common.{◌≡◌, ℕ, ◌-◌, List, length, take, Result, sym, refl, ap, ◌∙◌, arith}
+use Rattle.std.proofs.Common.{◌≡◌, ℕ, ◌-◌, ◌<◌, ◌≤◌, List, length, take, Result, sym, ap, ◌∙◌, arith, rules}
 use Rattle.std.proofs.lemmas.List.{length-replicate}
 use Rattle.std.proofs.lemmas.Result.{err_from_is_err_and}
 use Rattle.wire.specs.declared.refusal.Fault.{Fault}
@@ -30,7 +30,11 @@ settle-requires g c =
     let w = length_was (head_for (contents s) (length c.args.work.now) from) c.in_ok-len.len c.in_ok-len.ensures.answer in
     let fit = fitting s.strip from w.0 (made_fits (contents s) (length c.args.work.now) from w.0 w.1).0 in
     let sits = seat_sits (contents s) _ c.in_ok-i.i c.in_ok-i.ensures in
-    ((refl, tt), (omega (arith, sits.place, rows-length s), (omega (arith, w.2, fit.within), (sits.number, sits.count))))
+    let place : c.in_ok-i.i < s.strips = omega (arith, sits.place, rows-length s) in
+    let fits : c.in_ok-len.len ≤ s.strip = omega (arith, w.2, fit.within) in
+    let number = sits.number in
+    let count = sits.count in
+    search (rules, number, count)
 
 pub returns : goal.returns
 returns g c =
