@@ -1,11 +1,10 @@
 -- What the rows of a section stand for are its entries.
-use Rattle.std.proofs.Common.{◌≡◌, ℕ, zero, suc, ◌+◌, ◌-◌, ◌%◌, ◌<◌, ◌≤◌, List, [], ◌∷◌, ◌++◌, map, length, drop, is_some, IfSome, Some, None, Ok, Option, unwrap_or, sym, refl, ap, ◌∙◌, true≢false, append_assoc, arith}
+use Rattle.std.proofs.Common.{◌≡◌, ℕ, zero, suc, ◌+◌, ◌-◌, ◌%◌, ◌<◌, ◌≤◌, List, ◌∷◌, map, length, drop, is_some, IfSome, Some, None, Ok, Option, unwrap_or, sym, refl, ap, ◌∙◌, true≢false, arith}
 use Rattle.std.specs.Option.{option_map}
 use Rattle.std.proofs.lemmas.List.{length-drop, drop-drop}
 use Rattle.wire.specs.declared.order.ByteOrder.{ByteOrder}
-use Rattle.table.specs.Rows.{key_part, value_part}
+use Rattle.table.specs.Rows.{key_part}
 use Rattle.table.specs.Table.{tabled}
-use Rattle.table.specs.declared.row.Row.{Row}
 use Rattle.table.proofs.Carried.{carries}
 use Rattle.dso_key.specs.Detect.{detect}
 use Rattle.dso_key.specs.Keys.{Key, kernel}
@@ -15,7 +14,7 @@ use Rattle.dso_key.specs.Order.{keys}
 use Rattle.dso_key.proofs.Leasts.{least_some, least_again}
 use Rattle.perf_data.specs.Questions.{present, question}
 use Rattle.build_ids.specs.Events.{Event, event, records}
-use Rattle.build_ids.specs.Table.{Entry, keep, key_in, entry_of, entries_of, build_ids}
+use Rattle.build_ids.specs.Table.{keep, key_in, entry_of, entries_of, build_ids}
 use Rattle.build_ids.specs.Rows.{row_key, entry_in, row_with, row_of, rows_from, row_table, entries_in}
 use Rattle.build_ids.proofs.Reading.{records-end, records-more, event-size}
 use Rattle.build_ids.proofs.Parts.{path-part, id-part}

@@ -1,6 +1,6 @@
 -- A store that has no section but that of build ids, if that is there.
 use Rattle.std.specs.Prelude.{◌≡◌, ℕ, ◌<◌, ◌≤◌, Bool, true, false, cond, ◌&&◌, List, length, IfSome, Some, None, Option, ◌==◌, nat_le, refl}
-use Rattle.std.proofs.Common.{sym, ap, arith}
+use Rattle.std.proofs.Common.{ap, arith}
 use Rattle.std.proofs.lemmas.Bool.{leb-true, ne_eqb}
 use Rattle.image.specs.Held.{Features}
 

@@ -9,7 +9,7 @@ use Rattle.image.specs.Held.{Features}
 use Rattle.image.specs.Meaning.{means}
 use Rattle.image.specs.Run.{run_from, sections_of}
 use Rattle.facts.specs.declared.carried.Carried.{Carried}
-use Rattle.facts.specs.Facts.{Fact, number, read, write}
+use Rattle.facts.specs.Facts.{number, read, write}
 use Rattle.facts.specs.Head.{Sections, answer, head_of}
 
 -- A way to read a section and a way to write what was read belong together: what was read is read again from the bytes that

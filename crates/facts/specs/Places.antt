@@ -6,7 +6,7 @@ use Rattle.table.specs.Rows.{blanks}
 use Rattle.table.specs.declared.row.Row.{Row}
 use Rattle.facts.specs.declared.carried.Carried.{Carried}
 use Rattle.facts.specs.declared.carried.Carried.TheVariants.{BuildId, Hostname, OsRelease, Version, Arch, NrCpus, CpuDesc, CpuId, TotalMem, CmdLine, PmuMappings, Stat, ClockId, SimpleperfFile, SimpleperfMetaInfo}
-use Rattle.facts.specs.Facts.{Fact, write}
+use Rattle.facts.specs.Facts.{write}
 use Rattle.facts.specs.Head.{Answer}
 
 -- The place after a fact that is written from a place on; none where there is no fact.

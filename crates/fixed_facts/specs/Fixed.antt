@@ -1,7 +1,7 @@
 -- Facts of a fixed length: numbers, one after the other.
-use Rattle.std.specs.Prelude.{ℕ, cond, List, length, take, drop, Some, None, Ok, Err, Option, Result, ◌==◌}
+use Rattle.std.specs.Prelude.{ℕ, cond, List, take, drop, Some, None, Ok, Err, Option, Result, ◌==◌}
 use Rattle.wire.specs.Faults.{fault_of, section_fault}
-use Rattle.wire.specs.Numbers.{number, number_at}
+use Rattle.wire.specs.Numbers.{number}
 use Rattle.wire.specs.declared.order.ByteOrder.{ByteOrder}
 use Rattle.wire.specs.declared.refusal.Fault.{Fault}
 use Rattle.wire.specs.declared.refusal.Refusal.{Refusal}

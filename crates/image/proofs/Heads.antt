@@ -1,9 +1,7 @@
 -- The entries of a head image.
-use Rattle.std.proofs.Common.{◌≡◌, ℕ, ◌+◌, ◌≤◌, Bool, true, false, cond, ltb, List, length, Some, None, ap, arith}
+use Rattle.std.proofs.Common.{◌≡◌, ℕ, ◌≤◌, Bool, true, false, cond, ltb, List, length, Some, None, ap, arith}
 use Rattle.std.proofs.lemmas.Bool.{ltb-false}
 use Rattle.image.specs.declared.head.Entry.{Entry}
-use Rattle.wire.specs.Numbers.{number_at}
-use Rattle.wire.specs.declared.order.ByteOrder.TheVariants.{Little}
 use Rattle.image.specs.Head.{is_carried, entry_number, entry_size, head_entry}
 use Rattle.image.proofs.Runs.{Sized, none_not, unless}
 

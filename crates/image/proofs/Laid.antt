@@ -1,12 +1,12 @@
 -- The walk of a run keeps the law of its offsets.
-use Rattle.std.proofs.Common.{◌≡◌, ℕ, zero, suc, ◌+◌, ◌-◌, ◌<◌, ◌≤◌, Bool, true, false, cond, eqb, ltb, ◌⊎◌, List, [], ◌∷◌, length, take, drop, Some, None, Option, sym, refl, ap, ◌∙◌, subst, inl, inr, ⊎_elim, arith}
+use Rattle.std.proofs.Common.{◌≡◌, ℕ, zero, suc, ◌+◌, ◌-◌, ◌<◌, ◌≤◌, cond, ◌⊎◌, List, [], ◌∷◌, length, take, drop, Some, None, Option, sym, refl, ap, ◌∙◌, subst, inl, inr, ⊎_elim, arith}
 use Rattle.std.proofs.lemmas.List.{length-drop, drop-drop}
-use Rattle.std.proofs.lemmas.Bool.{cond_both, cond-false, cases_lt, le-ltb, ltb-false}
+use Rattle.std.proofs.lemmas.Bool.{cond-false, cases_lt, le-ltb}
 use Rattle.wire.specs.Faults.{image_fault}
 use Rattle.wire.specs.declared.order.ByteOrder.{ByteOrder}
-use Rattle.image.specs.Laid.{Follow, last_in, Ended, Stopped}
+use Rattle.image.specs.Laid.{Ended, Stopped}
 use Rattle.image.specs.Meaning.{Meaning, faulty, means, or_else, unless_at}
-use Rattle.image.specs.Run.{Front, Reader, after, is_feature, Walk, done, broken, entry, run, run_from, first_broken, last_of, sections_of, walked}
+use Rattle.image.specs.Run.{Front, Reader, after, is_feature, Walk, broken, entry, run, run_from, first_broken, last_of, sections_of, walked}
 use Rattle.image.proofs.Runs.{Sized, run-entry, run-broken, run-done}
 
 -- a walk that ran to the end, or was stopped

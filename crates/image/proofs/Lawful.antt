@@ -1,5 +1,5 @@
 -- Pipe images and head images keep the law of their offsets.
-use Rattle.std.proofs.Common.{◌≡◌, ℕ, ◌≤◌, Bool, cond, eqb, ltb, List, length, Some, None, Option, sym, refl, ap, subst, arith}
+use Rattle.std.proofs.Common.{◌≡◌, ℕ, ◌≤◌, cond, eqb, ltb, List, length, Some, None, Option, refl, subst, arith}
 use Rattle.std.proofs.lemmas.Bool.{cond_both, ltb-false}
 use Rattle.wire.specs.Faults.{image_fault}
 use Rattle.wire.specs.Numbers.{number_at}
@@ -9,9 +9,9 @@ use Rattle.image.specs.declared.head.Entry.{Entry}
 use Rattle.image.specs.declared.pipe.Header.{Header}
 use Rattle.image.specs.Head as head
 use Rattle.image.specs.Head.{head_entry, head_front, head_marked, head_image}
-use Rattle.image.specs.Laid.{Ended, Stopped, PipeLaid, HeadLaid}
+use Rattle.image.specs.Laid.{PipeLaid, HeadLaid}
 use Rattle.image.specs.Mark.{mark_order}
-use Rattle.image.specs.Meaning.{Meaning, faulty, means, sized_from}
+use Rattle.image.specs.Meaning.{Meaning, faulty, sized_from}
 use Rattle.image.specs.Pipe as pipe
 use Rattle.image.specs.Pipe.{header, pipe_front, pipe_marked, pipe_image}
 use Rattle.image.specs.Run.{Front, run_from, walked}

@@ -5,7 +5,7 @@ use Rattle.std.proofs.lemmas.List.{take_at, take-append-le, drop_at, drop-append
 use Rattle.std.proofs.lemmas.List.Edits.{length-insert}
 use Rattle.table.specs.Order.{Order}
 use Rattle.table.specs.Rows.{blank, blanks}
-use Rattle.table.specs.Table.{Rising, inserted, tabled, placed}
+use Rattle.table.specs.Table.{Rising, tabled, placed}
 use Rattle.table.specs.Fills.{Filled}
 use Rattle.table.specs.declared.row.Row.{Row}
 use Rattle.table.specs.declared.fill.Fill.TheVariants.{Used, Over}

@@ -3,7 +3,6 @@ use Rattle.std.proofs.Common.{◌≡◌, ℕ, ◌<◌, [], ◌∷◌, ◌++◌, 
 use Rattle.std.specs.Ordering.{ordering_then, MatchOrdering, nat_cmp}
 use Rattle.std.specs.Cmp.{ranks}
 use Rattle.std.specs.Cmp.Lexicographic.{slice_cmp}
-use Rattle.table.specs.Order.{numbers, texts}
 use Rattle.table.specs.Theorems.{BySize, ByFirstDifference, BeginningFirst}
 
 less_by : (x y : ℕ) (k : Ordering) → MatchOrdering k (x < y) (x ≡ y) (y < x) → x < y → k ≡ Less

@@ -1,12 +1,12 @@
-use Rattle.std.proofs.Common.{◌≡◌, ◌+◌, ◌≤◌, List, [], ◌∷◌, ◌++◌, length, drop, Some, None, sym, ap, ◌∙◌, subst, arith, rules}
+use Rattle.std.proofs.Common.{◌≡◌, ◌+◌, ◌≤◌, List, [], ◌∷◌, ◌++◌, length, drop, Some, None, sym, ap, ◌∙◌, subst, arith}
 use Rattle.std.proofs.lemmas.List.{length-drop}
 use Rattle.table.specs.Fills.{Filled, fits, laid}
 use Rattle.table.specs.Table.{tabled}
 use Rattle.table.specs.declared.fill.Fill.{Fill}
 use Rattle.table.specs.declared.row.Row.{Row}
 use Rattle.dso_key.specs.Order.{keys}
-use Rattle.build_ids.specs.Events.{event, event_of, records}
-use Rattle.build_ids.specs.Rows.{row_key, rows_from, row_table}
+use Rattle.build_ids.specs.Events.{event, event_of}
+use Rattle.build_ids.specs.Rows.{row_key, row_table}
 use Rattle.build_ids.proofs.Reading.{event-size}
 use Rattle.build_ids.proofs.Parts.{path-short, id-short}
 use Rattle.build_ids.proofs.Filling.{rows_end, rows_kept, rows-passed}

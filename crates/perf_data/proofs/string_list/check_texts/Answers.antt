@@ -1,4 +1,4 @@
-use Rattle.std.proofs.Common.{◌≡◌, ℕ, ◌+◌, ◌-◌, List, length, Some, sym, refl, ap, ◌∙◌, arith}
+use Rattle.std.proofs.Common.{◌≡◌, ℕ, ◌+◌, ◌-◌, length, Some, sym, ap, ◌∙◌, arith}
 use Rattle.wire.specs.Faults.{fault_of}
 use Rattle.perf_data.specs.Texts.{texts_in, first_fault}
 use Rattle.perf_data.proofs.Reading.{rest_shorter, fault-more, fault_here, fault-none}

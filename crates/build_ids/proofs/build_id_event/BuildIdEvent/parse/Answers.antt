@@ -1,4 +1,4 @@
-use Rattle.std.proofs.Common.{◌≡◌, max, ltb, length, drop, Some, None, sym, ap, ◌∙◌, arith, rules}
+use Rattle.std.proofs.Common.{◌≡◌, ltb, length, drop, Some, None, sym, ap, ◌∙◌, arith, rules}
 use Rattle.std.specs.Option.{option_map}
 use Rattle.std.proofs.lemmas.Bool.{le-ltb, cond-false}
 use Rattle.wire.specs.Numbers.{number}

@@ -1,7 +1,5 @@
-use Rattle.std.proofs.Common.{◌≡◌, Bool, true, false, Some, None, codes, Option, sym, refl, ap, ◌∙◌}
-use Rattle.std.specs.Option.{option_map}
+use Rattle.std.proofs.Common.{◌≡◌, None, codes}
 use Rattle.dso_key.specs.Detect.{detect, kernel_by, vdso_key, module_key, module_name, by_mode}
-use Rattle.dso_key.specs.Keys.{Key, key_of, written, kernel_module}
 use Rattle.dso_key.specs.Modes.{is_kernel}
 use Rattle.dso_key.specs.Paths.{begins}
 use Rattle.dso_key.proofs.Rules.{ruled}

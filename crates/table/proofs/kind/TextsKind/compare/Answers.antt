@@ -1,5 +1,4 @@
 use Rattle.std.proofs.Common.{◌∙◌}
-use Rattle.std.specs.Cmp.{nat_cmp_total}
 use Rattle.std.specs.Cmp.Lexicographic.{slice_cmp}
 use Rattle.table.proofs.kind.TextsKind.compare.Goals as goal
 use Rattle.std.specs.Ordering.{nat_cmp}
