@@ -11,11 +11,11 @@ pub struct Lines {
 }
 
 impl Lines {
-    pub fn new(rt: &HostRuntime) -> Lines {
-        Lines {
-            input: BufReader::new(rt.stdin()),
+    pub fn new(rt: &HostRuntime) -> io::Result<Lines> {
+        Ok(Lines {
+            input: BufReader::new(rt.alloc(), rt.stdin())?,
             line: Vec::new(rt.alloc()),
-        }
+        })
     }
 
     // Reads the next line, if there is one.

@@ -22,7 +22,7 @@ fn print_end(rt: &HostRuntime, requests: u64, held: usize) -> io::Result<()> {
 }
 
 fn serve(rt: &HostRuntime) -> anyhow::Result<()> {
-    let mut lines = Lines::new(rt);
+    let mut lines = Lines::new(rt)?;
     if !lines.advance()? {
         return Ok(print_end(rt, 0, 0)?);
     }

@@ -7,7 +7,7 @@ use desk::lines::Lines;
 use desk::request::Request;
 
 fn serve(rt: &HostRuntime) -> anyhow::Result<()> {
-    let mut lines = Lines::new(rt);
+    let mut lines = Lines::new(rt)?;
     let (mut desk, _) = Desk::open(rt.alloc(), USUAL)?;
     for _ in 0..u64::MAX {
         if !lines.advance()? {
