@@ -5,9 +5,8 @@
 
 crates/replay/stdin gets a question, a tab and the answer of THEIRS in each line: every question in both orders, with
 every kind of answer and every refusal that it has, short lines only; crates/replay/stdout gets the counts that are due.
-crates/ask/stdin gets the first question of each kind, and crates/ask/stdout the answers of compare/reference.py, which
-has refusals in full. Nothing is written if the Rust and compare/reference.py differ in a way that compare.py does not
-know, or if a known one, a question or a refusal has no line.
+Nothing is written if the Rust and compare/reference.py differ in a way that compare.py does not know, or if a known
+one, a question or a refusal has no line.
 """
 
 import collections
@@ -91,15 +90,6 @@ def tally(count, by_name):
     yield "0 other differences"
 
 
-def firsts_of_kinds(lines):
-    seen = set()
-    for line in lines:
-        this = kind(line, reference.answer(line))
-        if this not in seen:
-            seen.add(this)
-            yield line
-
-
 def write(path, lines):
     (questions.ROOT / path).write_text("".join(line + "\n" for line in lines), encoding="ascii")
 
@@ -114,12 +104,9 @@ def main():
     if not complete(lines):
         sys.exit("a question or a refusal is missing")
     by_name = checked(lines, theirs)
-    firsts = list(firsts_of_kinds(lines))
     write("crates/replay/stdin", [f"{line}\t{their}" for line, their in zip(lines, theirs)])
     write("crates/replay/stdout", tally(len(lines), by_name))
-    write("crates/ask/stdin", firsts)
-    write("crates/ask/stdout", [reference.answer(line) for line in firsts])
-    print(f"{len(lines)} lines, {len(firsts)} kinds, " + ", ".join(f"{n} {name}" for name, n in by_name.items()))
+    print(f"{len(lines)} lines, " + ", ".join(f"{n} {name}" for name, n in by_name.items()))
 
 
 if __name__ == "__main__":

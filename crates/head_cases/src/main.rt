@@ -5,7 +5,7 @@
 #![tactic(auto)]
 
 use anyhow::anyhow;
-use head::image::write_image_head;
+use head::from_image::write_image_head;
 use hexadecimal::{Hex, decode};
 use std::io::{BufRead, BufReader};
 use table::row::Row;

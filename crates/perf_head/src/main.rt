@@ -2,7 +2,7 @@
 // or repeated keys.
 #![tactic(auto)]
 
-use head::image::write_image_head;
+use head::from_image::write_image_head;
 use std::io;
 use std::io::{Read, Write};
 use table::row::Row;
