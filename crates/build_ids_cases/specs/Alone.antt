@@ -14,13 +14,13 @@ section_at there s n = cond (n == 2) (limited (there && nat_le (length s) 167772
 pub section_low : (there : Bool) (s : List ℕ) (n : ℕ) → 255 < n → section_at there s n ≡ None
 section_low there s n h = ap (λ b. cond b (limited (there && nat_le (length s) 16777216) s) None) (ne_eqb n 2 (λ e. omega arith))
 
-limited-short : (s : List ℕ) (there b : Bool) → nat_le (length s) 16777216 ≡ b → IfSome (limited (there && b) s) (λ x. length x ≤ 16777216)
-limited-short s true true e = leb-true (length s) 16777216 e
-limited-short s true false e = tt
-limited-short s false b e = tt
+limited_short : (s : List ℕ) (there b : Bool) → nat_le (length s) 16777216 ≡ b → IfSome (limited (there && b) s) (λ x. length x ≤ 16777216)
+limited_short s true true e = leb-true (length s) 16777216 e
+limited_short s true false e = tt
+limited_short s false b e = tt
 
 short_by : (there : Bool) (s : List ℕ) (b : Bool) → IfSome (cond b (limited (there && nat_le (length s) 16777216) s) None) (λ x. length x ≤ 16777216)
-short_by there s true = limited-short s there (nat_le (length s) 16777216) refl
+short_by there s true = limited_short s there (nat_le (length s) 16777216) refl
 short_by there s false = tt
 
 pub section_short : (there : Bool) (s : List ℕ) (n : ℕ) → IfSome (section_at there s n) (λ x. length x ≤ 16777216)

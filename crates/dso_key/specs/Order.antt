@@ -39,19 +39,19 @@ decoded c =
     (cond (c.0 == 5) vsyscall
     (cond (c.0 == 6) (kernel_module c.1) (user c.1)))))))
 
-pub decoded-again : (k : Key) → decoded (coded k) ≡ k
-decoded-again kernel = refl
-decoded-again guest_kernel = refl
-decoded-again vdso32 = refl
-decoded-again vdso_x32 = refl
-decoded-again vdso64 = refl
-decoded-again vsyscall = refl
-decoded-again (kernel_module name) = refl
-decoded-again (user path) = refl
+pub decoded_again : (k : Key) → decoded (coded k) ≡ k
+decoded_again kernel = refl
+decoded_again guest_kernel = refl
+decoded_again vdso32 = refl
+decoded_again vdso_x32 = refl
+decoded_again vdso64 = refl
+decoded_again vsyscall = refl
+decoded_again (kernel_module name) = refl
+decoded_again (user path) = refl
 
-pub coded-one : (x y : Key) → coded x ≡ coded y → x ≡ y
-coded-one x y e = sym (decoded-again x) ∙ (ap decoded e ∙ decoded-again y)
+pub coded_one : (x y : Key) → coded x ≡ coded y → x ≡ y
+coded_one x y e = sym (decoded_again x) ∙ (ap decoded e ∙ decoded_again y)
 
 -- By kind, and within a kind by name or path: byte by byte, a beginning before its extension.
 abbrev pub keys : Order Key
-keys = along coded coded-one (pairs numbers texts)
+keys = along coded coded_one (pairs numbers texts)

@@ -47,8 +47,8 @@ pub record Speaks (n : ℕ) (o : ByteOrder) (m : Features) (h : List ℕ) : Type
   pub equal : (k : ℕ) (p : ByteOrder) (t : Features) (g : List ℕ) → IsHead k p t g → Alike n o m.at k p t.at → h ≡ g
   pub alike : (k : ℕ) (p : ByteOrder) (t : Features) (g : List ℕ) → IsHead k p t g → h ≡ g → Alike n o m.at k p t.at
   -- and feature by feature: the entries are the same bytes, or both missing, exactly when that question answers alike
-  pub entry-equal : (k : ℕ) (p : ByteOrder) (t : Features) (g : List ℕ) → IsHead k p t g → (f : Carried) → answer n o m.at f ≡ answer k p t.at f → head_sections h (number f) ≡ head_sections g (number f)
-  pub entry-alike : (k : ℕ) (p : ByteOrder) (t : Features) (g : List ℕ) → IsHead k p t g → (f : Carried) → head_sections h (number f) ≡ head_sections g (number f) → answer n o m.at f ≡ answer k p t.at f
+  pub entry_equal : (k : ℕ) (p : ByteOrder) (t : Features) (g : List ℕ) → IsHead k p t g → (f : Carried) → answer n o m.at f ≡ answer k p t.at f → head_sections h (number f) ≡ head_sections g (number f)
+  pub entry_alike : (k : ℕ) (p : ByteOrder) (t : Features) (g : List ℕ) → IsHead k p t g → (f : Carried) → head_sections h (number f) ≡ head_sections g (number f) → answer n o m.at f ≡ answer k p t.at f
 
 -- Every head does.
 abbrev pub HeadsSpeak : Type 0

@@ -206,12 +206,12 @@ module _ (laws : FactsReadBack) where
         let b : x.body ≡ y.body = cc in
         sym x.all ∙ (ap (λ (z : List ℕ). mark ++ z) b ∙ y.all)
 
-    pub entry-equal : (f : Carried) → answer n o m.at f ≡ answer k q t.at f → head_sections h (number f) ≡ head_sections g (number f)
-    entry-equal f e = section_is n o m h head f ∙ (ap bytes e ∙ sym (section_is k q t g other f))
+    pub entry_equal : (f : Carried) → answer n o m.at f ≡ answer k q t.at f → head_sections h (number f) ≡ head_sections g (number f)
+    entry_equal f e = section_is n o m h head f ∙ (ap bytes e ∙ sym (section_is k q t g other f))
 
     -- what is written of two answers tells them apart, whatever rows they had
-    pub entry-alike : (f : Carried) → head_sections h (number f) ≡ head_sections g (number f) → answer n o m.at f ≡ answer k q t.at f
-    entry-alike f e =
+    pub entry_alike : (f : Carried) → head_sections h (number f) ≡ head_sections g (number f) → answer n o m.at f ≡ answer k q t.at f
+    entry_alike f e =
         let here = answers n o m h head f in
         let there = answers k q t g other f in
         let moved : answer k Little (head_sections h) f ≡ answer k q t.at f = ap (λ (x : Option (List ℕ)). question (read k f) Little x) e ∙ there in
@@ -220,7 +220,7 @@ module _ (laws : FactsReadBack) where
         ∙ moved)
 
     pub alike : h ≡ g → Alike n o m.at k q t.at
-    alike e f = entry-alike f (ap (λ (x : List ℕ). head_sections x (number f)) e)
+    alike e f = entry_alike f (ap (λ (x : List ℕ). head_sections x (number f)) e)
 
   pub heads_speak : HeadsSpeak
   heads_speak n o m h head =
@@ -230,6 +230,6 @@ module _ (laws : FactsReadBack) where
         itself = itself n o m h head;
         equal = equal n o m h head;
         alike = alike n o m h head;
-        entry-equal = entry-equal n o m h head;
-        entry-alike = entry-alike n o m h head;
+        entry_equal = entry_equal n o m h head;
+        entry_alike = entry_alike n o m h head;
       }

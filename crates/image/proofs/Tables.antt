@@ -8,7 +8,7 @@ use Rattle.wire.specs.declared.order.ByteOrder.{ByteOrder}
 use Rattle.image.specs.declared.file.Extent.{Extent}
 use Rattle.image.specs.declared.index.Indexed.{Indexed}
 use Rattle.image.specs.File.{is_set, set_below, entry_at, extent_at, section_start, section_len, is_outside, first_outside, file_section, sections_of}
-use Rattle.image.specs.Index.{Put, section_in, indexed-low}
+use Rattle.image.specs.Index.{Put, section_in, indexed_low}
 use Rattle.image.specs.Meaning.{faulty, means, or_else, unless_at}
 
 module _ (o : ByteOrder) (s : List ℕ) where
@@ -166,6 +166,6 @@ module _ {o : ByteOrder} {image : List ℕ} {n at : ℕ} {was : Indexed} (t : Ta
                 (cases_lt m n);
             bare = λ m a. ⊎_elim
                 (λ (k : m < 256). p.stands m (omega arith) ∙ (cond-false _ _ _ (ne_eqb n m (λ (z : n ≡ m). omega arith)) ∙ t.bare m (omega arith)))
-                (λ (k : 256 ≤ m). indexed-low _ _ m k)
+                (λ (k : 256 ≤ m). indexed_low _ _ m k)
                 (cases_lt m 256);
           }

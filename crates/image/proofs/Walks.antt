@@ -6,7 +6,7 @@ use Rattle.std.proofs.lemmas.Bool.{ltb-true, ltb-false, cond_both}
 use Rattle.image.specs.declared.index.Indexed.{Indexed}
 use Rattle.wire.specs.declared.order.ByteOrder.{ByteOrder}
 use Rattle.wire.specs.Faults.{image_fault}
-use Rattle.image.specs.Index.{Put, section_in, indexed-low}
+use Rattle.image.specs.Index.{Put, section_in, indexed_low}
 use Rattle.image.specs.Meaning.{faulty, means, or_else, unless_at}
 use Rattle.image.specs.Run.{Walk, done, broken, entry, first_broken, last_of, sections_of, walked}
 
@@ -53,7 +53,7 @@ pub filling_done : {whole : Walk} {index : Indexed} {order : ByteOrder} (number 
 filling_done {whole} {index} {order} number e f =
     let same : (n : ℕ) → section_in index n ≡ sections_of whole n = λ n.
     cond_both (ltb 255 n) None (last_of n whole) (λ o. section_in index n ≡ o)
-    (λ a. indexed-low _ _ n (ltb-true 255 n a)) (λ a. sym (f.stands n (ltb-false 255 n a))) in
+    (λ a. indexed_low _ _ n (ltb-true 255 n a)) (λ a. sym (f.stands n (ltb-false 255 n a))) in
     ap (λ o. means o (section_in index)) e ∙ (ap (means order) (fun_ext same) ∙ sym (ap (λ o. unless_at number o (means order (sections_of whole))) f.fault))
 
 -- `s` is an end of the image

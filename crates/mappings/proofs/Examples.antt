@@ -7,9 +7,9 @@ use Rattle.mappings.specs.PmuMappings.{items_in}
 use Rattle.mappings.specs.MetaInfo.{pieces}
 use Rattle.mappings.specs.Laws.{LaterValue, EmptySection, LoneNul, LonePiece, KeyFirst, SkippedName, CutLength}
 
-pub later-value : LaterValue
+pub later_value : LaterValue
 unfolding pieces longest starts_one pieces_past
-later-value = refl
+later_value = refl
 
 pub empty_section : EmptySection
 unfolding pieces

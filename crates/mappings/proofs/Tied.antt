@@ -45,7 +45,7 @@ module _ {X : Type 0} (f : Row → X) (feature n : ℕ) where
   pub settled_entries : (table : Result (List Row) Fault) (entries : Result (List X) Fault) (r : Result ℕ Refusal) (rows : List Row) → with_value (map f) table ≡ entries → Settled feature table n r rows → outcome (λ k. map f (take k rows)) r ≡ within feature n entries
   settled_entries table entries r rows e s =
       outcome-value (λ k. map f (take k rows)) r ∙ ap (with_value (λ k. map f (take k rows))) s.answer
-      ∙ shown-same table rows s.rows-after ∙ ap (within feature n) e
+      ∙ shown-same table rows s.rows_after ∙ ap (within feature n) e
 
 -- A table of rows stands for the table of what the rows stand for, by the same keys.
 pub table_tied : {K X : Type 0} (o : Order K) (key : Row → K) (f : Row → K × X) → ((row : Row) → (f row).0 ≡ key row) → (given : Result (List Row) Fault) → with_value (map f) (table_by o key given) ≡ table_by o (λ e. e.0) (with_value (map f) given)

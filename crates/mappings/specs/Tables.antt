@@ -66,4 +66,4 @@ Made (Err f) (Err e) rows = fault_of e ≡ f
 -- The answer and the rows, once a reading has been brought to its end.
 pub record Settled (feature : ℕ) (table : Result (List Row) Fault) (n : ℕ) (r : Result ℕ Refusal) (rows : List Row) : Type 0 where
   pub answer : outcome (λ k. k) r ≡ counted (within feature n table)
-  pub rows-after : rows ≡ laid_out n table
+  pub rows_after : rows ≡ laid_out n table

@@ -16,9 +16,9 @@ unfolding number_of before_nul longest starts_one pieces_past
 text_ill_formed = refl
 
 -- One replacement for the longest beginning of a sequence.
-pub shown-cut : shown (0xF0 ∷ 0x9F ∷ 0x41 ∷ []) ≡ 0xEF ∷ 0xBF ∷ 0xBD ∷ 0x41 ∷ []
+pub shown_cut : shown (0xF0 ∷ 0x9F ∷ 0x41 ∷ []) ≡ 0xEF ∷ 0xBF ∷ 0xBD ∷ 0x41 ∷ []
 unfolding longest starts_one pieces_past
-shown-cut = refl
+shown_cut = refl
 
 -- The standard's own example of truncated sequences.
 pub shown_truncated : shown (0xE1 ∷ 0x80 ∷ 0xE2 ∷ 0xF0 ∷ 0x91 ∷ 0x92 ∷ 0xF1 ∷ 0xBF ∷ 0x41 ∷ [])

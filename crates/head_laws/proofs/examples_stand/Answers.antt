@@ -22,8 +22,8 @@ returns c =
       id_flagged = refl;
       text_to_nul = refl;
       text_ill_formed = refl;
-      shown-cut = refl;
-      later-value = refl;
-      empty-head = refl;
+      shown_cut = refl;
+      later_value = refl;
+      empty_head = refl;
       stat_head = refl;
     }

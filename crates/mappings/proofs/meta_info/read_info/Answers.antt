@@ -15,6 +15,6 @@ returns c =
     let is = subst (λ k. Settled 129 (meta_rows s) k r after) c.read_pairs-read.auto.rows (c.settle.ensures (meta_rows s) c.read_pairs-read.ensures) in
     record {
       answer = settled_answer (entry_of (key_part s) s) 129 n (meta_rows s) (meta_table s) r after (info_tied s) is;
-      after = is.rows-after;
+      after = is.rows_after;
       entries = settled_entries (entry_of (key_part s) s) 129 n (meta_rows s) (meta_table s) r after (info_tied s) is;
     }

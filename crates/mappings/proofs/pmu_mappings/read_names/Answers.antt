@@ -16,6 +16,6 @@ returns c =
     let is = subst (λ k. Settled 16 (pmu_rows o s) k r after) c.read_items-read.auto.rows (c.settle.ensures (pmu_rows o s) c.read_items-read.ensures) in
     record {
       answer = settled_answer (entry_of key_of s) 16 n (pmu_rows o s) (pmu_names o s) r after (names_tied s o) is;
-      after = is.rows-after;
+      after = is.rows_after;
       entries = settled_entries (entry_of key_of s) 16 n (pmu_rows o s) (pmu_names o s) r after (names_tied s o) is;
     }
