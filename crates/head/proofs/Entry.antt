@@ -1,9 +1,6 @@
 -- The entry of a fact: its bytes are written first, and then what stands before them.
-use Rattle.std.proofs.Common.{◌≡◌, ℕ, ◌+◌, ◌-◌, ◌^◌, ◌<◌, ◌≤◌, List, [], ◌++◌, length, Some, None, Ok, Err, Option, Result, sym, refl, ap, ◌∙◌, subst, arith}
+use Rattle.std.proofs.Common.{◌≡◌, ℕ, ◌+◌, ◌-◌, ◌^◌, ◌<◌, List, [], ◌++◌, length, Some, None, Ok, Err, Option, sym, refl, ap, ◌∙◌, subst, arith}
 use Rattle.std.proofs.lemmas.List.{append_assoc, length-append}
-use Rattle.wire.specs.Numbers.{bytes_of}
-use Rattle.wire.specs.declared.order.ByteOrder.TheVariants.{Little}
-use Rattle.wire.specs.declared.refusal.Fault.{Fault}
 use Rattle.wire.proofs.Digits.{length-bytes_of}
 use Rattle.put.specs.Overlay.{overlay, place}
 use Rattle.put.proofs.Overlays.{overlay-before}

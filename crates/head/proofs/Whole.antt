@@ -1,16 +1,16 @@
 -- A head is counted, and then written; and it speaks for its store.
-use Rattle.std.proofs.Common.{◌≡◌, ℕ, ◌+◌, ◌<◌, ◌≤◌, min, Bool, true, false, cond, ltb, List, [], ◌++◌, length, take, drop, is_some, IfOk, Some, None, Ok, Err, Option, Result, sym, refl, ap, ◌∙◌, subst, arith, Bor}
+use Rattle.std.proofs.Common.{◌≡◌, ℕ, ◌+◌, ◌≤◌, min, Bool, true, false, cond, ltb, List, ◌++◌, length, take, drop, is_some, IfOk, Some, None, Ok, Err, Option, Result, sym, refl, ap, ◌∙◌, subst, arith, Bor}
 use Rattle.std.proofs.lemmas.List.{take_at}
 use Rattle.std.proofs.lemmas.Bool.{le-ltb, ltb-false, cond-false}
-use Rattle.wire.specs.Faults.{fault_of, section_fault, state_fault}
+use Rattle.wire.specs.Faults.{section_fault, state_fault}
 use Rattle.wire.specs.declared.order.ByteOrder.{ByteOrder}
 use Rattle.wire.specs.declared.refusal.Fault.{Fault}
 use Rattle.wire.specs.declared.refusal.Refusal.{Refusal}
 use Rattle.image.specs.Held.{Features, held}
 use Rattle.put.specs.Overlay.{overlay}
 use Rattle.put.proofs.Overlays.{overlay_front}
-use Rattle.facts.specs.Head.{Sections, answer, after, entries, mark, carried, head_of, fitted, length_of, ahead, outcome}
-use Rattle.facts.specs.Laws.{HeadsSpeak, IsHead, Spoken, Speaks}
+use Rattle.facts.specs.Head.{Sections, answer, entries, mark, carried, head_of, fitted, length_of, ahead, outcome}
+use Rattle.facts.specs.Laws.{HeadsSpeak, Spoken, Speaks}
 use Rattle.head_laws.proofs.Found.{not_ok}
 use Rattle.head.specs.Wrote.{Wrote}
 use Rattle.head.proofs.Writes.{wrote_behind}

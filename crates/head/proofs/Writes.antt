@@ -6,7 +6,7 @@ use Rattle.wire.specs.declared.refusal.Fault.{Fault}
 use Rattle.wire.specs.declared.refusal.Refusal.{Refusal}
 use Rattle.put.specs.Overlay.{overlay}
 use Rattle.put.proofs.Overlays.{overlay_behind, overlay-none}
-use Rattle.facts.specs.Head.{after, outcome}
+use Rattle.facts.specs.Head.{after}
 use Rattle.head_laws.proofs.Found.{not_ok}
 use Rattle.head.specs.Wrote.{place_after, Wrote}
 

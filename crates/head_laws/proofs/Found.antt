@@ -1,6 +1,6 @@
 -- What is found in the entries of a head: of each feature the bytes of its answer.
-use Rattle.std.proofs.Common.{◌≡◌, ℕ, suc, ◌+◌, ◌^◌, ◌<◌, ◌≤◌, Bool, true, false, cond, eqb, ltb, List, [], ◌∷◌, ◌++◌, length, Some, None, Ok, Err, Option, Result, sym, refl, ap, ◌∙◌, subst, ⊎_elim, arith, lit≤}
-use Rattle.std.proofs.lemmas.Bool.{eqb-true, eqb-false, cond-true, cond-false, cases_Bool, ne_eqb}
+use Rattle.std.proofs.Common.{◌≡◌, ℕ, suc, ◌+◌, ◌^◌, ◌<◌, ◌≤◌, Bool, true, false, cond, eqb, List, [], ◌∷◌, ◌++◌, length, Some, None, Ok, Err, Option, Result, sym, refl, ap, ◌∙◌, subst, arith, lit≤}
+use Rattle.std.proofs.lemmas.Bool.{eqb-true, cond-false, ne_eqb}
 use Rattle.wire.specs.declared.refusal.Fault.{Fault}
 use Rattle.image.specs.Head.{is_carried, head_front}
 use Rattle.image.specs.Meaning.{or_else}
@@ -8,7 +8,7 @@ use Rattle.image.specs.Run as run
 use Rattle.image.specs.Run.{Walk, passed, first_broken, last_of}
 use Rattle.facts.specs.declared.carried.Carried.{Carried}
 use Rattle.facts.specs.declared.carried.Carried.TheVariants.{BuildId, Hostname, OsRelease, Version, Arch, NrCpus, CpuDesc, CpuId, TotalMem, CmdLine, PmuMappings, Stat, ClockId, SimpleperfFile, SimpleperfMetaInfo}
-use Rattle.facts.specs.Facts.{Fact, number, write}
+use Rattle.facts.specs.Facts.{number, write}
 use Rattle.facts.specs.Head.{Answer, Sections, framed, entry, after, entries, carried}
 use Rattle.head_laws.proofs.Frames.{run_framed}
 

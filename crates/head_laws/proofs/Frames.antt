@@ -1,8 +1,8 @@
 -- An entry that is written is read again as the entry that the bytes begin with.
-use Rattle.std.proofs.Common.{◌≡◌, ℕ, ◌+◌, ◌-◌, ◌^◌, ◌<◌, ◌≤◌, true, cond, ltb, List, [], ◌∷◌, ◌++◌, length, take, drop, Some, None, Option, sym, refl, ap, ◌∙◌, arith}
+use Rattle.std.proofs.Common.{◌≡◌, ℕ, ◌+◌, ◌-◌, ◌^◌, ◌<◌, ◌≤◌, true, ltb, List, ◌++◌, length, take, drop, Some, None, sym, refl, ap, ◌∙◌, arith}
 use Rattle.std.proofs.lemmas.List.{append_assoc, length-append, take_at, drop_at, drop-drop}
 use Rattle.std.proofs.lemmas.Bool.{le-ltb, cond-true, cond-false}
-use Rattle.wire.specs.Numbers.{number_of, bytes_of}
+use Rattle.wire.specs.Numbers.{number_of}
 use Rattle.wire.specs.declared.order.ByteOrder.TheVariants.{Little}
 use Rattle.wire.proofs.Digits.{number-bytes, length-bytes_of}
 use Rattle.image.specs.Head.{is_carried, entry_number, entry_size, head_entry, fronted, head_front}

@@ -1,7 +1,7 @@
 -- A head speaks for its store, since what was read of a section is read again from the entry.
-use Rattle.std.proofs.Common.{◌≡◌, ℕ, ◌+◌, ◌^◌, ◌<◌, ◌≤◌, min, Bool, true, false, cond, eqb, ltb, leb, List, [], ◌∷◌, ◌++◌, length, take, drop, is_some, IfSome, Some, None, Ok, Err, Option, Result, sym, refl, ap, ◌∙◌, subst, arith}
+use Rattle.std.proofs.Common.{◌≡◌, ℕ, ◌≤◌, Bool, true, false, cond, eqb, ltb, leb, List, ◌++◌, length, is_some, IfSome, Some, None, Ok, Err, Option, Result, sym, refl, ap, ◌∙◌, subst, arith}
 use mathlib.Core.Path.{fun_ext}
-use Rattle.std.proofs.lemmas.Bool.{le-ltb, cond-true, cond-false}
+use Rattle.std.proofs.lemmas.Bool.{le-ltb, cond-false}
 use Rattle.wire.specs.Faults.{section_fault, image_fault, state_fault}
 use Rattle.wire.specs.Numbers.{number_of, number_at}
 use Rattle.wire.specs.declared.order.ByteOrder.{ByteOrder}
@@ -10,7 +10,7 @@ use Rattle.wire.specs.declared.refusal.Fault.{Fault}
 use Rattle.image.specs.Head.{head_front, head_marked, head_image}
 use Rattle.image.specs.Held.{Features}
 use Rattle.image.specs.Meaning.{faulty, means, unless_at}
-use Rattle.image.specs.Run.{run_from, last_of, first_broken, sections_of, walked as Walked-as}
+use Rattle.image.specs.Run.{run_from, first_broken, walked as Walked-as}
 use Rattle.perf_data.specs.Questions.{present, question}
 use Rattle.facts.specs.declared.carried.Carried.{Carried}
 use Rattle.facts.specs.declared.carried.Carried.TheVariants.{BuildId, Hostname, OsRelease, Version, Arch, NrCpus, CpuDesc, CpuId, TotalMem, CmdLine, PmuMappings, Stat, ClockId, SimpleperfFile, SimpleperfMetaInfo}
@@ -18,10 +18,10 @@ use Rattle.mappings.specs.PmuMappings.{pmu_names}
 use Rattle.mappings.specs.MetaInfo.{meta_info}
 use Rattle.mappings.specs.Tables.{within}
 use Rattle.build_ids.specs.Table.{build_ids}
-use Rattle.facts.specs.Facts.{Fact, builds, names, pairs, number, fact_of, read, write}
+use Rattle.facts.specs.Facts.{Fact, builds, names, pairs, number, fact_of, read}
 use Rattle.facts.specs.Head.{Answer, Sections, answer, after, entries, mark, carried, head_of}
-use Rattle.facts.specs.Laws.{FactsReadBack, head_sections, IsHead, Alike, Speaks, HeadsSpeak}
-use Rattle.head_laws.proofs.Found.{not_ok, Numbered, numbered, carried_rise, bytes, Small, Whole, among, AllWhole, Walked, walked, all_whole}
+use Rattle.facts.specs.Laws.{FactsReadBack, head_sections, IsHead, Alike, HeadsSpeak}
+use Rattle.head_laws.proofs.Found.{not_ok, numbered, carried_rise, bytes, Small, Whole, among, AllWhole, Walked, walked, all_whole}
 
 -- ---- of the carried features, each has the entry of its answer
 

@@ -1,5 +1,5 @@
 -- The definitions on some bytes.
-use Rattle.std.specs.Prelude.{◌≡◌, ℕ, cond, List, [], ◌∷◌, ◌++◌, length, replicate, Some, None, Ok, Err, codes, ◌==◌}
+use Rattle.std.specs.Prelude.{◌≡◌, cond, [], ◌∷◌, ◌++◌, length, replicate, Some, None, Ok, Err, codes, ◌==◌}
 use Rattle.wire.specs.Faults.{section_fault}
 use Rattle.wire.specs.declared.order.ByteOrder.TheVariants.{Little}
 use Rattle.text.specs.Pieces.{shown}

@@ -1,5 +1,5 @@
 -- Two filings, one after the other, from the opening on.
-use Rattle.std.proofs.Common.{◌≡◌, ℕ, eqb, [], ◌∷◌, Ok, Decides, refl, inl, inr, arith}
+use Rattle.std.proofs.Common.{ℕ, eqb, [], ◌∷◌, Ok, Decides, refl, inl, inr, arith}
 use Rattle.std.proofs.lemmas.Bool.{eqb-true, eq-eqb}
 use Rattle.shelf.specs.Contents.{Contents}
 use Rattle.shelf.specs.Histories.{Filing}

@@ -1,11 +1,11 @@
 -- Heads that fit into the room for them.
-use Rattle.std.proofs.Common.{◌≡◌, ℕ, ◌-◌, ◌≤◌, min, Bool, true, false, cond, ltb, List, ◌++◌, length, take, drop, replicate, Ok, Err, Result, sym, refl, ap, ◌∙◌, ⊎_elim, arith}
+use Rattle.std.proofs.Common.{◌≡◌, ℕ, ◌≤◌, min, true, false, ltb, List, ◌++◌, length, drop, replicate, Ok, Err, Result, sym, ap, ◌∙◌, ⊎_elim, arith}
 use Rattle.std.proofs.lemmas.List.{take_at, drop_at, drop-replicate, length-append, length-drop, length-replicate}
 use Rattle.std.proofs.lemmas.Bool.{cases_Bool, ltb-false, cond-true, cond-false}
 use Rattle.wire.specs.Faults.{state_fault}
 use Rattle.wire.specs.declared.refusal.Fault.{Fault}
 use Rattle.facts.specs.Head.{fitted, ahead}
-use Rattle.shelf.specs.Rows.{Row, row_of}
+use Rattle.shelf.specs.Rows.{row_of}
 use Rattle.shelf.specs.Calls.{fresh}
 
 -- what a head that fits is

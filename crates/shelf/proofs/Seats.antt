@@ -1,10 +1,9 @@
 -- The place that a head gets.
-use Rattle.std.proofs.Common.{◌≡◌, ℕ, ◌+◌, ◌<◌, ◌≤◌, Bool, true, false, cond, eqb, ltb, ◌⊎◌, List, length, Some, None, Ok, Err, Option, Result, sym, refl, ap, ◌∙◌, subst, inl, inr, ⊎_elim, arith}
+use Rattle.std.proofs.Common.{◌≡◌, ℕ, ◌+◌, ◌<◌, ◌≤◌, Bool, true, false, cond, eqb, ltb, ◌⊎◌, List, length, Some, None, Ok, Err, Option, Result, sym, ap, ◌∙◌, subst, inl, inr, ⊎_elim, arith}
 use Rattle.std.proofs.lemmas.Slice.Eq.{bytes_eq-Decides}
-use Rattle.std.proofs.lemmas.Bool.{and_parts, and_cases, both_ways, cases_Bool, cond-true, cond-false, eqb-true, eqb-false, eq-eqb, ne_eqb, ltb-true, lt-ltb}
+use Rattle.std.proofs.lemmas.Bool.{and_parts, and_cases, both_ways, cases_Bool, cond-true, cond-false, eqb-true, eq-eqb, ne_eqb, ltb-true, lt-ltb}
 use Rattle.std.specs.Str.{bytes_eq}
 use Rattle.wire.specs.declared.refusal.Fault.{Fault}
-use Rattle.shelf.specs.Rows.{Row}
 use Rattle.shelf.specs.Contents.{Contents, blank, row_in, put, handed_out}
 use Rattle.shelf.specs.Calls.{refused, first_with, is_numbered, has_head, free_place, FreeAt, FindsFree, taking, seat, seat_for, fresh, recount, number_at, seated, number_of, seated_at, file_answer, file_after}
 use Rattle.shelf.proofs.Firsts.{Found, first_found}

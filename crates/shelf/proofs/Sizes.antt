@@ -1,9 +1,9 @@
 -- The loop that counts the groups.
-use Rattle.std.proofs.Common.{◌≡◌, ℕ, ◌+◌, ◌<◌, ◌≤◌, true, false, cond, eqb, length, drop, sym, refl, ap, ◌∙◌, arith}
+use Rattle.std.proofs.Common.{◌≡◌, ℕ, ◌+◌, ◌<◌, ◌≤◌, cond, drop, ap, ◌∙◌, arith}
 use Rattle.std.proofs.lemmas.List.{drop_more, drop_all}
 use Rattle.std.proofs.lemmas.Bool.{eq-eqb, ne_eqb, cond-true, cond-false}
 use Rattle.shelf.specs.declared.shelf.Shelf.{Shelf}
-use Rattle.shelf.specs.Contents.{contents, row_in, blank}
+use Rattle.shelf.specs.Contents.{contents, blank}
 use Rattle.shelf.specs.Calls.{is_numbered}
 use Rattle.shelf.specs.Sizes.{held}
 use Rattle.shelf.proofs.Places.{row_standing, rows-length, row_on}

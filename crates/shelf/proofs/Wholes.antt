@@ -1,14 +1,13 @@
 -- The bytes of a shelf are those of its rows, and those behind them; and a head is never empty.
-use Rattle.std.proofs.Common.{◌≡◌, ℕ, zero, suc, ◌+◌, ◌*◌, ◌<◌, ◌≤◌, min, Bool, true, false, cond, ltb, leb, List, [], ◌∷◌, ◌++◌, map, length, get_or, take, drop, is_some, Ok, Err, vec_items, Result, sym, refl, ap, ◌∙◌, ⊎_elim, suc-mul, add-one, arith, take-add}
+use Rattle.std.proofs.Common.{◌≡◌, ℕ, zero, suc, ◌*◌, ◌<◌, min, Bool, true, false, cond, ltb, leb, List, [], ◌++◌, map, length, get_or, take, drop, is_some, Ok, Err, vec_items, Result, sym, ap, ◌∙◌, suc-mul, add-one, arith, take-add}
 use Rattle.std.proofs.lemmas.List.FromFn.{map-range_with_len_more}
 use Rattle.std.proofs.lemmas.List.{flat_map_more, take-append-drop}
-use Rattle.std.proofs.lemmas.Bool.{cases_Bool, cond-true, cond-false, lt-ltb}
+use Rattle.std.proofs.lemmas.Bool.{cond-true, lt-ltb}
 use Rattle.std.specs.List.{range_with_len, flat_map}
 use Rattle.wire.specs.Faults.{section_fault}
 use Rattle.wire.specs.declared.refusal.Fault.{Fault}
-use Rattle.facts.specs.Head.{after, answer, carried, entries, fitted, head_of, mark}
+use Rattle.facts.specs.Head.{after, answer, carried, entries, fitted, mark}
 use Rattle.shelf.specs.declared.shelf.Group.{Group}
-use Rattle.shelf.specs.declared.shelf.Shelf.{Shelf}
 use Rattle.shelf.specs.Rows.{Row, row_at, strip_at, free}
 use Rattle.shelf.specs.Contents.{EveryByte}
 use Rattle.shelf.specs.Calls.{NoneFits, if_room, refused}

@@ -1,5 +1,5 @@
 -- A symbol, the tail of a record and the record are read again.
-use Rattle.std.proofs.Common.{◌≡◌, ℕ, ◌+◌, ◌<◌, ◌≤◌, cond, eqb, List, ◌++◌, length, Some, None, Option, refl, ap, arith}
+use Rattle.std.proofs.Common.{◌≡◌, ℕ, ◌<◌, ◌≤◌, cond, eqb, List, ◌++◌, length, Some, None, Option, refl, ap, arith}
 use Rattle.std.proofs.lemmas.List.{length-append}
 use Rattle.wire.proofs.Digits.{length-bytes_of}
 use Rattle.simpleperf.specs.Tables.{Symbol, symbol_in, Info, dex_file, elf_file, kernel_module, info_in, File, file_in}

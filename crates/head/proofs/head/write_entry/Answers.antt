@@ -1,7 +1,7 @@
 use Rattle.std.proofs.Common.{◌+◌, ◌-◌, length, refl, arith}
 use Rattle.facts.specs.Head.{Answer, answer}
 use Rattle.head_laws.proofs.Stands.{small}
-use Rattle.head.proofs.Entry.{wrote_absent, Body, body, entry_some}
+use Rattle.head.proofs.Entry.{wrote_absent, body, entry_some}
 use Rattle.head.proofs.head.write_entry.Goals as goal
 
 pub returns-in_default : goal.returns-in_default

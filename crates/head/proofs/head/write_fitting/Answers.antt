@@ -1,7 +1,7 @@
-use Rattle.std.proofs.Common.{ℕ, ◌≤◌, min, length, subst, arith}
+use Rattle.std.proofs.Common.{ℕ, length, subst, arith}
 use Rattle.facts.specs.Head.{head_of}
 use Rattle.head.specs.Wrote.{Wrote}
-use Rattle.head.proofs.Whole.{Answered, head-fits}
+use Rattle.head.proofs.Whole.{head-fits}
 use Rattle.head.proofs.head.write_fitting.Goals as goal
 
 pub returns : goal.returns

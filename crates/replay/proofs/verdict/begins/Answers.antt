@@ -1,4 +1,4 @@
-use Rattle.std.proofs.Common.{length, take, ◌∙◌, rules}
+use Rattle.std.proofs.Common.{length, take, rules}
 use Rattle.std.proofs.lemmas.Slice.Eq.{slice_eq-Decides, bytes_eq-Decides}
 use Rattle.replay.proofs.verdict.begins.Goals as goal
 use Rattle.std.proofs.lemmas.Bool.Decides.{Decides-eqb}

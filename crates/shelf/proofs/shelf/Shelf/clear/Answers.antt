@@ -1,6 +1,6 @@
-use Rattle.std.proofs.Common.{◌≡◌, ℕ, ◌+◌, ◌-◌, ◌*◌, ◌≤◌, List, [], length, replicate, sym, ap, ◌∙◌, arith}
+use Rattle.std.proofs.Common.{◌≡◌, ℕ, ◌+◌, ◌-◌, ◌*◌, ◌≤◌, List, [], length, replicate, ap, ◌∙◌, arith}
 use Rattle.std.proofs.lemmas.List.{length-set, length-replicate}
-use Rattle.shelf.specs.Rows.{Row, free}
+use Rattle.shelf.specs.Rows.{free}
 use Rattle.shelf.specs.Contents.{contents, put}
 use Rattle.shelf.proofs.Places.{strip_end}
 use Rattle.shelf.proofs.Changes.{lent_strip, within_set, length-strip}

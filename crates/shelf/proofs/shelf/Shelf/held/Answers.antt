@@ -1,4 +1,4 @@
-use Rattle.std.proofs.Common.{◌≡◌, ℕ, ◌+◌, sym, subst, arith}
+use Rattle.std.proofs.Common.{ℕ, ◌+◌, sym, subst, arith}
 use Rattle.shelf.proofs.Sizes.{Counting, counted_group, passed-free, all_counted}
 use Rattle.shelf.proofs.shelf.Shelf.held.Goals as goal
 use Rattle.shelf.proofs.shelf.Shelf.held.Goals.{then-self-i-ne0, else-self-i-ne0}

@@ -1,4 +1,4 @@
-use Rattle.std.proofs.Common.{◌≡◌, sym, refl, ap, ◌∙◌, arith, rules, below_more}
+use Rattle.std.proofs.Common.{sym, arith, rules, below_more}
 use Rattle.shelf.specs.Calls.{has_head}
 use Rattle.shelf.specs.Contents.{contents, blank}
 use Rattle.shelf.proofs.Firsts.{first_here, first-none}
