@@ -1,106 +1,66 @@
-// Answers that are numbers.
-use crate::common::{write_absent, write_refusal};
+// Answers that are numbers, and that a section is there.
+use crate::told::Told;
 use fixed_facts::feature_sections::{
     ClockData, ClockFrequency, CompressionInfo, NrCpus, SampleTimeRange, TotalMem,
 };
 use std::alloc::AllocError;
-use wire::refusal::Refusal;
 
-pub fn write_cpus(
-    out: &mut String,
-    answer: Result<Option<NrCpus>, Refusal>,
-) -> Result<(), AllocError> {
-    match answer {
-        Ok(Some(fact)) => {
-            let available = fact.nr_cpus_available;
-            let online = fact.nr_cpus_online;
-            write!(out, "numbers {available} {online}")
-        }
-        Ok(None) => write_absent(out),
-        Err(refusal) => write_refusal(out, refusal),
+impl Told for NrCpus {
+    fn write(self, out: &mut String) -> Result<(), AllocError> {
+        let available = self.nr_cpus_available;
+        let online = self.nr_cpus_online;
+        write!(out, "numbers {available} {online}")
     }
 }
 
-pub fn write_memory(
-    out: &mut String,
-    answer: Result<Option<TotalMem>, Refusal>,
-) -> Result<(), AllocError> {
-    match answer {
-        Ok(Some(fact)) => {
-            let kilobytes = fact.kilobytes;
-            write!(out, "numbers {kilobytes}")
-        }
-        Ok(None) => write_absent(out),
-        Err(refusal) => write_refusal(out, refusal),
+impl Told for TotalMem {
+    fn write(self, out: &mut String) -> Result<(), AllocError> {
+        let kilobytes = self.kilobytes;
+        write!(out, "numbers {kilobytes}")
     }
 }
 
-pub fn write_times(
-    out: &mut String,
-    answer: Result<Option<SampleTimeRange>, Refusal>,
-) -> Result<(), AllocError> {
-    match answer {
-        Ok(Some(fact)) => {
-            let first = fact.first_sample_time;
-            let last = fact.last_sample_time;
-            write!(out, "numbers {first} {last}")
-        }
-        Ok(None) => write_absent(out),
-        Err(refusal) => write_refusal(out, refusal),
+impl Told for SampleTimeRange {
+    fn write(self, out: &mut String) -> Result<(), AllocError> {
+        let first = self.first_sample_time;
+        let last = self.last_sample_time;
+        write!(out, "numbers {first} {last}")
     }
 }
 
-pub fn write_frequency(
-    out: &mut String,
-    answer: Result<Option<ClockFrequency>, Refusal>,
-) -> Result<(), AllocError> {
-    match answer {
-        Ok(Some(fact)) => {
-            let ns = fact.ns_per_tick;
-            write!(out, "numbers {ns}")
-        }
-        Ok(None) => write_absent(out),
-        Err(refusal) => write_refusal(out, refusal),
+impl Told for ClockFrequency {
+    fn write(self, out: &mut String) -> Result<(), AllocError> {
+        let ns = self.ns_per_tick;
+        write!(out, "numbers {ns}")
     }
 }
 
-pub fn write_compression(
-    out: &mut String,
-    answer: Result<Option<CompressionInfo>, Refusal>,
-) -> Result<(), AllocError> {
-    match answer {
-        Ok(Some(fact)) => {
-            let version = fact.version;
-            let kind = fact.type_;
-            let level = fact.level;
-            let ratio = fact.ratio;
-            let mmap = fact.mmap_len;
-            write!(out, "numbers {version} {kind} {level} {ratio} {mmap}")
-        }
-        Ok(None) => write_absent(out),
-        Err(refusal) => write_refusal(out, refusal),
+impl Told for CompressionInfo {
+    fn write(self, out: &mut String) -> Result<(), AllocError> {
+        let version = self.version;
+        let kind = self.type_;
+        let level = self.level;
+        let ratio = self.ratio;
+        let mmap = self.mmap_len;
+        write!(out, "numbers {version} {kind} {level} {ratio} {mmap}")
     }
 }
 
-pub fn write_clock(
-    out: &mut String,
-    answer: Result<Option<ClockData>, Refusal>,
-) -> Result<(), AllocError> {
-    match answer {
-        Ok(Some(fact)) => {
-            let clock = fact.clockid;
-            let wall = fact.wall_clock_ns;
-            let time = fact.clockid_time_ns;
-            write!(out, "numbers {clock} {wall} {time}")
-        }
-        Ok(None) => write_absent(out),
-        Err(refusal) => write_refusal(out, refusal),
+impl Told for ClockData {
+    fn write(self, out: &mut String) -> Result<(), AllocError> {
+        let clock = self.clockid;
+        let wall = self.wall_clock_ns;
+        let time = self.clockid_time_ns;
+        write!(out, "numbers {clock} {wall} {time}")
     }
 }
 
-pub fn write_stats(out: &mut String, is_stats: bool) -> Result<(), AllocError> {
-    if is_stats {
-        return write!(out, "present");
+// A section that tells by being there.
+#[derive(Clone, Copy)]
+pub struct Present;
+
+impl Told for Present {
+    fn write(self, out: &mut String) -> Result<(), AllocError> {
+        write!(out, "present")
     }
-    write_absent(out)
 }

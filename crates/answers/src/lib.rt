@@ -3,7 +3,6 @@
 
 ghost use Rattle.std.specs.Prelude.{◌≡◌, IfOk, vec_len};
 
-mod common;
 mod facts;
 mod line;
 mod names;
@@ -11,25 +10,27 @@ mod question;
 mod rows;
 mod symbols;
 mod texts;
+mod told;
 
-use facts::{
-    write_clock, write_compression, write_cpus, write_frequency, write_memory, write_stats,
-    write_times,
-};
+use build_ids::builds::Builds;
+use build_ids::perf_file::build_ids;
+use dso_key::cpu_mode::CpuMode;
+use dso_key::dso_key::DsoKey;
+use facts::Present;
 use fixed_facts::perf_file::{
     clock_data, clock_frequency, compression_info, is_stats, nr_cpus, sample_time_range, total_mem,
 };
-use hexadecimal::decode;
-use line::{Line, Words, read_words};
-use names::{write_detect, write_shown};
+use line::{Line, LineError};
+use mappings::meta_info::meta_info;
+use mappings::pmu_mappings::pmu_mappings;
 use perf_data::perf_file::{arch, cmdline, cpu_desc, cpu_id, hostname, os_release, perf_version};
 use question::Question;
-use rows::{write_builds, write_meta, write_pmu};
+use rows::{MetaTable, PmuTable, used_rows};
 use simpleperf::questions::symbol_tables;
 use std::alloc::{AllocError, Global};
-use symbols::write_tables;
 use table::row::Row;
-use texts::{write_text, write_texts};
+use texts::write_shown;
+use told::write_answer;
 
 // No question asks for more rows.
 pub const MOST_ROWS: u32 = 65_536;
@@ -41,51 +42,54 @@ pub fn all_rows(heap: Global) -> Result<Vec<Row>, AllocError>
     vec![in heap; Row::BLANK; MOST_ROWS as usize]
 }
 
-fn write_answer(out: &mut String, line: &Line<'_>, rows: &mut [Row]) -> Result<(), AllocError> {
+fn write_pmu(out: &mut String, line: &Line, rows: &mut [Row]) -> Result<(), AllocError> {
+    let store = line.store(16);
+    let used = pmu_mappings(&store, rows);
+    write_answer(out, used_rows(used, PmuTable(store), rows))
+}
+
+fn write_meta(out: &mut String, line: &Line, rows: &mut [Row]) -> Result<(), AllocError> {
+    let store = line.store(129);
+    let used = meta_info(&store, rows);
+    write_answer(out, used_rows(used, MetaTable(store), rows))
+}
+
+fn write_builds(out: &mut String, line: &Line, rows: &mut [Row]) -> Result<(), AllocError> {
+    let used = build_ids(&line.store(2), rows);
+    let builds = Builds {
+        section: line.bytes(),
+    };
+    write_answer(out, used_rows(used, builds, rows))
+}
+
+// The place of the rows holds the misc.
+fn write_detect(out: &mut String, line: &Line) -> Result<(), AllocError> {
+    let mode = CpuMode::from(line.rows % 8);
+    write_answer(out, Ok(DsoKey::detect(line.bytes(), mode)))
+}
+
+fn write_line(out: &mut String, line: &Line, rows: &mut [Row]) -> Result<(), AllocError> {
     match line.question {
-        Question::Hostname => write_text(out, hostname(&line.store(3))),
-        Question::OsRelease => write_text(out, os_release(&line.store(4))),
-        Question::PerfVersion => write_text(out, perf_version(&line.store(5))),
-        Question::Arch => write_text(out, arch(&line.store(6))),
-        Question::CpuDesc => write_text(out, cpu_desc(&line.store(8))),
-        Question::CpuId => write_text(out, cpu_id(&line.store(9))),
-        Question::Cmdline => write_texts(out, cmdline(&line.store(11))),
-        Question::NrCpus => write_cpus(out, nr_cpus(&line.store(7))),
-        Question::TotalMem => write_memory(out, total_mem(&line.store(10))),
-        Question::SampleTimeRange => write_times(out, sample_time_range(&line.store(21))),
-        Question::ClockFrequency => write_frequency(out, clock_frequency(&line.store(23))),
-        Question::CompressionInfo => write_compression(out, compression_info(&line.store(27))),
-        Question::ClockData => write_clock(out, clock_data(&line.store(29))),
-        Question::IsStats => write_stats(out, is_stats(&line.store(19))),
+        Question::Hostname => write_answer(out, hostname(&line.store(3))),
+        Question::OsRelease => write_answer(out, os_release(&line.store(4))),
+        Question::PerfVersion => write_answer(out, perf_version(&line.store(5))),
+        Question::Arch => write_answer(out, arch(&line.store(6))),
+        Question::CpuDesc => write_answer(out, cpu_desc(&line.store(8))),
+        Question::CpuId => write_answer(out, cpu_id(&line.store(9))),
+        Question::Cmdline => write_answer(out, cmdline(&line.store(11))),
+        Question::NrCpus => write_answer(out, nr_cpus(&line.store(7))),
+        Question::TotalMem => write_answer(out, total_mem(&line.store(10))),
+        Question::SampleTimeRange => write_answer(out, sample_time_range(&line.store(21))),
+        Question::ClockFrequency => write_answer(out, clock_frequency(&line.store(23))),
+        Question::CompressionInfo => write_answer(out, compression_info(&line.store(27))),
+        Question::ClockData => write_answer(out, clock_data(&line.store(29))),
+        Question::IsStats => { write_answer(out, Ok(is_stats(&line.store(19)).then_some(Present))) }
         Question::PmuMappings => write_pmu(out, line, rows),
         Question::MetaInfo => write_meta(out, line, rows),
         Question::BuildIds => write_builds(out, line, rows),
-        Question::SymbolTables => write_tables(out, symbol_tables(&line.store(128))),
+        Question::SymbolTables => write_answer(out, symbol_tables(&line.store(128))),
         Question::Detect => write_detect(out, line),
-        Question::Shown => write_shown(out, line),
-    }
-}
-
-// Whether the words were those of a question; if not, nothing is written.
-fn write_words(
-    heap: Global,
-    out: &mut String,
-    words: &Words<'_>,
-    rows: &mut [Row],
-) -> anyhow::Result<bool> {
-    if words.section == "-" {
-        write_answer(out, &words.with(None), rows)?;
-        return Ok(true);
-    }
-    let Some(digits) = words.section.strip_prefix("x") else {
-        return Ok(false);
-    };
-    match decode(heap, digits.as_bytes())? {
-        Some(bytes) => {
-            write_answer(out, &words.with(Some(bytes.as_slice())), rows)?;
-            Ok(true)
-        }
-        None => Ok(false),
+        Question::Shown => write_shown(out, line.bytes()),
     }
 }
 
@@ -96,14 +100,12 @@ fn lent(rows: &mut [Row], wanted: u32) -> &mut [Row] {
 }
 
 // The answer to a question; the rows are for its table.
-pub fn answer(heap: Global, question: &str, rows: &mut [Row]) -> anyhow::Result<String> {
+pub fn answer(heap: Global, question: &str, rows: &mut [Row]) -> Result<String, AllocError> {
     let mut out = String::new(heap);
-    let answered = match read_words(question) {
-        Some(words) => write_words(heap, &mut out, &words, lent(rows, words.rows))?,
-        None => false,
-    };
-    if !answered {
-        write!(out, "bad line")?;
+    match Line::read(heap, question) {
+        Ok(line) => write_line(&mut out, &line, lent(rows, line.rows))?,
+        Err(LineError::Bad) => write!(out, "bad line")?,
+        Err(LineError::Memory(error)) => return Err(error),
     }
     Ok(out)
 }

@@ -1,72 +1,100 @@
 // A line, taken apart: QUESTION ORDER ROWS SECTION.
 use crate::MOST_ROWS;
-use crate::question::{Question, question_of};
+use crate::question::{Question, UnknownQuestion};
+use hexadecimal::decode;
 use section_store::SectionStore;
+use std::alloc::{AllocError, Global};
+use std::num::ParseIntError;
 use wire::order::ByteOrder;
 
-#[derive(Clone, Copy)]
-pub struct Line<'a> {
+#[derive(Drop)]
+pub struct Line {
     pub question: Question,
     pub order: ByteOrder,
     // also the misc of `detect`
     pub rows: u32,
-    pub section: Option<&'a [u8]>,
+    pub section: Option<Vec<u8>>,
 }
 
-impl<'a> Line<'a> {
-    // The section, as that of a feature; or a store with none, since no feature has the number 256.
-    pub fn store(&self, feature: u32) -> SectionStore<'a> {
-        match self.section {
-            Some(bytes) => SectionStore::new(self.order, feature, bytes),
-            None => SectionStore::new(self.order, 256, &[]),
-        }
+// Why there is no line.
+#[derive(Debug, Drop)]
+pub enum LineError {
+    // it is not made of four such words
+    Bad,
+    Memory(AllocError),
+}
+
+impl From<AllocError> for LineError {
+    fn from(error: AllocError) -> LineError {
+        LineError::Memory(error)
     }
 }
 
-fn order_of(word: &str) -> Option<ByteOrder> {
+impl From<UnknownQuestion> for LineError {
+    fn from(_: UnknownQuestion) -> LineError {
+        LineError::Bad
+    }
+}
+
+impl From<ParseIntError> for LineError {
+    fn from(_: ParseIntError) -> LineError {
+        LineError::Bad
+    }
+}
+
+// Kept: the words of a line are `le` and `be` (docs/ASK.md), and those that an order is read from by FromStr are others,
+// `little` and `big`.
+fn order_of(word: &str) -> Result<ByteOrder, LineError> {
     match word {
-        "le" => Some(ByteOrder::Little),
-        "be" => Some(ByteOrder::Big),
-        _ => None,
+        "le" => Ok(ByteOrder::Little),
+        "be" => Ok(ByteOrder::Big),
+        _ => Err(LineError::Bad),
     }
 }
 
-fn rows_of(word: &str) -> Option<u32> {
-    match word.parse::<u32>() {
-        Ok(n) => { if n <= MOST_ROWS { Some(n) } else { None } }
-        Err(_) => None,
+fn rows_of(word: &str) -> Result<u32, LineError> {
+    let rows = word.parse::<u32>()?;
+    if rows > MOST_ROWS {
+        return Err(LineError::Bad);
+    }
+    Ok(rows)
+}
+
+fn section_of(heap: Global, word: &str) -> Result<Option<Vec<u8>>, LineError> {
+    if word == "-" {
+        return Ok(None);
+    }
+    let digits = word.strip_prefix("x").ok_or(LineError::Bad)?;
+    match decode(heap, digits.as_bytes())? {
+        Some(bytes) => Ok(Some(bytes)),
+        None => Err(LineError::Bad),
     }
 }
 
-// The four words of a line, as they stand.
-#[derive(Clone, Copy)]
-pub struct Words<'a> {
-    pub question: Question,
-    pub order: ByteOrder,
-    pub rows: u32,
-    pub section: &'a str,
-}
+impl Line {
+    pub fn read(heap: Global, text: &str) -> Result<Line, LineError> {
+        let (question, rest) = text.split_once(' ').ok_or(LineError::Bad)?;
+        let (order, rest) = rest.split_once(' ').ok_or(LineError::Bad)?;
+        let (rows, section) = rest.split_once(' ').ok_or(LineError::Bad)?;
+        Ok(Line {
+            question: question.parse::<Question>()?,
+            order: order_of(order)?,
+            rows: rows_of(rows)?,
+            section: section_of(heap, section)?,
+        })
+    }
 
-// None where a line is not made of four such words.
-pub fn read_words(text: &str) -> Option<Words<'_>> {
-    let (question, rest) = text.split_once(' ')?;
-    let (order, rest) = rest.split_once(' ')?;
-    let (rows, section) = rest.split_once(' ')?;
-    Some(Words {
-        question: question_of(question)?,
-        order: order_of(order)?,
-        rows: rows_of(rows)?,
-        section,
-    })
-}
-
-impl Words<'_> {
-    pub fn with<'b>(&self, section: Option<&'b [u8]>) -> Line<'b> {
-        Line {
-            question: self.question,
-            order: self.order,
-            rows: self.rows,
-            section,
+    // The section's bytes; none where it is absent.
+    pub fn bytes(&self) -> &[u8] {
+        match &self.section {
+            Some(bytes) => bytes.as_slice(),
+            None => &[],
         }
+    }
+
+    // The section, as that of a feature; or a store with none, since no feature has the number 256.
+    pub fn store(&self, feature: u32) -> SectionStore<'_> {
+        let feature = if self.section.is_some() { feature } else { 256 };
+        SectionStore::new(self.order, feature, self.bytes())
     }
 }

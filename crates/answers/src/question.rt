@@ -1,5 +1,7 @@
 // The questions that a line can ask.
-#[derive(Clone, Copy)]
+use std::str::FromStr;
+
+#[derive(Clone, Copy, PartialEq, Eq, Debug)]
 pub enum Question {
     Hostname,
     OsRelease,
@@ -23,28 +25,36 @@ pub enum Question {
     Shown,
 }
 
-pub fn question_of(word: &str) -> Option<Question> {
-    Some(match word {
-        "hostname" => Question::Hostname,
-        "os_release" => Question::OsRelease,
-        "perf_version" => Question::PerfVersion,
-        "arch" => Question::Arch,
-        "cpu_desc" => Question::CpuDesc,
-        "cpu_id" => Question::CpuId,
-        "cmdline" => Question::Cmdline,
-        "nr_cpus" => Question::NrCpus,
-        "total_mem" => Question::TotalMem,
-        "sample_time_range" => Question::SampleTimeRange,
-        "clock_frequency" => Question::ClockFrequency,
-        "compression_info" => Question::CompressionInfo,
-        "clock_data" => Question::ClockData,
-        "is_stats" => Question::IsStats,
-        "pmu_mappings" => Question::PmuMappings,
-        "meta_info" => Question::MetaInfo,
-        "build_ids" => Question::BuildIds,
-        "symbol_tables" => Question::SymbolTables,
-        "detect" => Question::Detect,
-        "shown" => Question::Shown,
-        _ => return None,
-    })
+// A word that names no question.
+#[derive(Clone, Copy, PartialEq, Eq, Debug)]
+pub struct UnknownQuestion;
+
+impl FromStr for Question {
+    type Err = UnknownQuestion;
+
+    fn from_str(word: &str) -> Result<Question, UnknownQuestion> {
+        Ok(match word {
+            "hostname" => Question::Hostname,
+            "os_release" => Question::OsRelease,
+            "perf_version" => Question::PerfVersion,
+            "arch" => Question::Arch,
+            "cpu_desc" => Question::CpuDesc,
+            "cpu_id" => Question::CpuId,
+            "cmdline" => Question::Cmdline,
+            "nr_cpus" => Question::NrCpus,
+            "total_mem" => Question::TotalMem,
+            "sample_time_range" => Question::SampleTimeRange,
+            "clock_frequency" => Question::ClockFrequency,
+            "compression_info" => Question::CompressionInfo,
+            "clock_data" => Question::ClockData,
+            "is_stats" => Question::IsStats,
+            "pmu_mappings" => Question::PmuMappings,
+            "meta_info" => Question::MetaInfo,
+            "build_ids" => Question::BuildIds,
+            "symbol_tables" => Question::SymbolTables,
+            "detect" => Question::Detect,
+            "shown" => Question::Shown,
+            _ => return Err(UnknownQuestion),
+        })
+    }
 }

@@ -1,100 +1,94 @@
 // Answers that are rows of a table.
-use crate::common::{write_absent, write_refusal};
-use crate::line::Line;
+use crate::names::write_key;
+use crate::told::Told;
 use build_ids::builds::Builds;
-use build_ids::perf_file::build_ids;
-use dso_key::dso_key::DsoKey;
 use hexadecimal::Hex;
-use mappings::meta_info::{meta_entry, meta_info};
-use mappings::pmu_mappings::{pmu_entry, pmu_mappings};
+use mappings::meta_info::meta_entry;
+use mappings::pmu_mappings::pmu_entry;
+use section_store::SectionStore;
 use std::alloc::AllocError;
 use table::row::Row;
+use wire::refusal::Refusal;
 
-// The kind of a key, by its name in the code.
-pub fn kind_of(key: DsoKey<'_>) -> &'static str {
-    match key {
-        DsoKey::Kernel => "Kernel",
-        DsoKey::GuestKernel => "GuestKernel",
-        DsoKey::Vdso32 => "Vdso32",
-        DsoKey::VdsoX32 => "VdsoX32",
-        DsoKey::Vdso64 => "Vdso64",
-        DsoKey::Vsyscall => "Vsyscall",
-        DsoKey::KernelModule(_) => "KernelModule",
-        DsoKey::User(_) => "User",
+// A table, by how one of its rows is written.
+pub trait Table: Copy {
+    fn write_row(self, out: &mut String, row: &Row) -> Result<(), AllocError>;
+}
+
+#[derive(Clone, Copy)]
+pub struct PmuTable<'a>(pub SectionStore<'a>);
+
+impl Table for PmuTable<'_> {
+    fn write_row(self, out: &mut String, row: &Row) -> Result<(), AllocError> {
+        let Some(entry) = pmu_entry(&self.0, row) else {
+            return Ok(());
+        };
+        let number = entry.number;
+        let name = Hex(entry.name);
+        write!(out, " {number}:x{name}")
     }
 }
 
-// The bytes of a key's name, in hexadecimal.
-pub fn write_name(out: &mut String, key: DsoKey<'_>) -> Result<(), AllocError> {
-    for byte in key.name() {
-        write!(out, "{byte:02x}")?;
-    }
-    Ok(())
-}
+#[derive(Clone, Copy)]
+pub struct MetaTable<'a>(pub SectionStore<'a>);
 
-pub fn write_pmu(out: &mut String, line: &Line<'_>, rows: &mut [Row]) -> Result<(), AllocError> {
-    let store = line.store(16);
-    match pmu_mappings(&store, rows) {
-        Err(refusal) => write_refusal(out, refusal),
-        Ok(None) => write_absent(out),
-        Ok(Some(used)) => {
-            write!(out, "rows {used}")?;
-            for row in rows.iter().take(used) {
-                if let Some(entry) = pmu_entry(&store, row) {
-                    let number = entry.number;
-                    let name = Hex(entry.name);
-                    write!(out, " {number}:x{name}")?;
-                }
-            }
-            Ok(())
-        }
+impl Table for MetaTable<'_> {
+    fn write_row(self, out: &mut String, row: &Row) -> Result<(), AllocError> {
+        let Some(entry) = meta_entry(&self.0, row) else {
+            return Ok(());
+        };
+        let key = Hex(entry.key);
+        let value = Hex(entry.value);
+        write!(out, " x{key}:x{value}")
     }
 }
 
-pub fn write_meta(out: &mut String, line: &Line<'_>, rows: &mut [Row]) -> Result<(), AllocError> {
-    let store = line.store(129);
-    match meta_info(&store, rows) {
-        Err(refusal) => write_refusal(out, refusal),
-        Ok(None) => write_absent(out),
-        Ok(Some(used)) => {
-            write!(out, "rows {used}")?;
-            for row in rows.iter().take(used) {
-                if let Some(entry) = meta_entry(&store, row) {
-                    let key = Hex(entry.key);
-                    let value = Hex(entry.value);
-                    write!(out, " x{key}:x{value}")?;
-                }
-            }
-            Ok(())
-        }
+impl Table for Builds<'_> {
+    fn write_row(self, out: &mut String, row: &Row) -> Result<(), AllocError> {
+        let Some(key) = self.key(row) else {
+            return Ok(());
+        };
+        write!(out, " ")?;
+        write_key(out, key, ":")?;
+        let path = Hex(self.path(row));
+        let id = Hex(self.id(row));
+        write!(out, ":x{path}:x{id}")
     }
 }
 
-fn write_build(out: &mut String, builds: &Builds<'_>, row: &Row) -> Result<(), AllocError> {
-    if let Some(key) = builds.key(row) {
-        let kind = kind_of(key);
-        write!(out, " {kind}:x")?;
-        write_name(out, key)?;
-        let path = Hex(builds.path(row));
-        let id = Hex(builds.id(row));
-        write!(out, ":x{path}:x{id}")?;
+fn write_rows<T: Table>(out: &mut String, table: T, rows: &[Row]) -> Result<(), AllocError> {
+    for row in rows {
+        table.write_row(out, row)?;
     }
     Ok(())
 }
 
-pub fn write_builds(out: &mut String, line: &Line<'_>, rows: &mut [Row]) -> Result<(), AllocError> {
-    let store = line.store(2);
-    match build_ids(&store, rows) {
-        Err(refusal) => write_refusal(out, refusal),
-        Ok(None) => write_absent(out),
-        Ok(Some(used)) => {
-            let section = line.section.unwrap_or(&[]);
-            let builds = Builds { section };
-            write!(out, "rows {used}")?;
-            for row in rows.iter().take(used) {
-                write_build(out, &builds, row)?;
-            }
-            Ok(())
-        }
+// The rows that a table uses.
+#[derive(Clone, Copy)]
+pub struct TableRows<'r, T> {
+    table: T,
+    rows: &'r [Row],
+}
+
+impl<T: Table> Told for TableRows<'_, T> {
+    fn write(self, out: &mut String) -> Result<(), AllocError> {
+        let used = self.rows.len();
+        write!(out, "rows {used}")?;
+        write_rows(out, self.table, self.rows)
+    }
+}
+
+// Those rows, by what a question for a table answers.
+pub fn used_rows<T: Table>(
+    used: Result<Option<usize>, Refusal>,
+    table: T,
+    rows: &[Row],
+) -> Result<Option<TableRows<'_, T>>, Refusal> {
+    match used? {
+        None => Ok(None),
+        Some(used) => Ok(Some(TableRows {
+            table,
+            rows: &rows[..used.min(rows.len())],
+        })),
     }
 }

@@ -1,22 +1,19 @@
 // Symbol tables.
-use crate::common::{write_absent, write_refusal};
+use crate::told::Told;
 use hexadecimal::Hex;
 use simpleperf::dex::OffsetList;
 use simpleperf::file::SimpleperfFileRecord;
 use simpleperf::info::SimpleperfTypeSpecificInfo;
-use simpleperf::symbol::SymbolList;
+use simpleperf::symbol::{SimpleperfSymbol, SymbolList};
 use simpleperf::tables::SymbolTables;
 use std::alloc::AllocError;
-use wire::refusal::Refusal;
 
-fn write_offsets(out: &mut String, offsets: OffsetList<'_>) -> Result<(), AllocError> {
-    let mut is_first = true;
+fn write_offsets(out: &mut String, mut offsets: OffsetList<'_>) -> Result<(), AllocError> {
+    if let Some(first) = offsets.next() {
+        write!(out, "{first}")?;
+    }
     for offset in offsets {
-        if !is_first {
-            write!(out, ",")?;
-        }
-        is_first = false;
-        write!(out, "{offset}")?;
+        write!(out, ",{offset}")?;
     }
     Ok(())
 }
@@ -26,44 +23,44 @@ fn write_info(
     info: Option<SimpleperfTypeSpecificInfo<'_>>,
 ) -> Result<(), AllocError> {
     match info {
-        None => write!(out, "-")?,
+        None => write!(out, "-"),
         Some(SimpleperfTypeSpecificInfo::SimpleperfDexFileInfo(dex)) => {
             write!(out, "dex=")?;
-            write_offsets(out, dex.dex_file_offset)?;
+            write_offsets(out, dex.dex_file_offset)
         }
         Some(SimpleperfTypeSpecificInfo::ElfFile(elf)) => {
             let at = elf.file_offset_of_min_vaddr;
-            write!(out, "elf={at}")?;
+            write!(out, "elf={at}")
         }
         Some(SimpleperfTypeSpecificInfo::KernelModule(module)) => {
             let at = module.memory_offset_of_min_vaddr;
-            write!(out, "module={at}")?;
+            write!(out, "module={at}")
         }
     }
-    Ok(())
 }
 
-fn write_symbols(out: &mut String, symbols: SymbolList<'_>) -> Result<(), AllocError> {
-    if symbols.count() == 0 {
-        write!(out, "-")?;
+fn write_symbol(out: &mut String, symbol: SimpleperfSymbol<'_>) -> Result<(), AllocError> {
+    let vaddr = symbol.vaddr;
+    let len = symbol.len;
+    let name = Hex(symbol.name.as_bytes());
+    write!(out, "{vaddr},{len},x{name}")
+}
+
+fn write_symbols(out: &mut String, mut symbols: SymbolList<'_>) -> Result<(), AllocError> {
+    match symbols.next() {
+        None => write!(out, "-")?,
+        Some(first) => write_symbol(out, first)?,
     }
-    let mut is_first = true;
     for symbol in symbols {
-        if !is_first {
-            write!(out, ";")?;
-        }
-        is_first = false;
-        let vaddr = symbol.vaddr;
-        let len = symbol.len;
-        let name = Hex(symbol.name.as_bytes());
-        write!(out, "{vaddr},{len},x{name}")?;
+        write!(out, ";")?;
+        write_symbol(out, symbol)?;
     }
     Ok(())
 }
 
 fn write_file(out: &mut String, file: SimpleperfFileRecord<'_>) -> Result<(), AllocError> {
     let path = Hex(file.path.as_bytes());
-    let file_type = file.file_type;
+    let file_type = u32::from(file.file_type);
     let lowest = file.min_vaddr;
     write!(out, " x{path}:{file_type}:{lowest}:")?;
     write_info(out, file.type_specific_msg)?;
@@ -71,20 +68,13 @@ fn write_file(out: &mut String, file: SimpleperfFileRecord<'_>) -> Result<(), Al
     write_symbols(out, file.symbol)
 }
 
-pub fn write_tables(
-    out: &mut String,
-    answer: Result<Option<SymbolTables<'_>>, Refusal>,
-) -> Result<(), AllocError> {
-    match answer {
-        Err(refusal) => write_refusal(out, refusal),
-        Ok(None) => write_absent(out),
-        Ok(Some(tables)) => {
-            let n = tables.count();
-            write!(out, "records {n}")?;
-            for file in tables {
-                write_file(out, file)?;
-            }
-            Ok(())
+impl Told for SymbolTables<'_> {
+    fn write(self, out: &mut String) -> Result<(), AllocError> {
+        let count = self.count();
+        write!(out, "records {count}")?;
+        for file in self {
+            write_file(out, file)?;
         }
+        Ok(())
     }
 }

@@ -1,39 +1,34 @@
-// Questions that texts answer.
-use crate::common::{write_absent, write_refusal};
+// Answers that are texts.
+use crate::told::Told;
 use hexadecimal::Hex;
 use perf_data::string_list::StringList;
 use std::alloc::AllocError;
-use wire::refusal::Refusal;
+use text::shown::Shown;
 
-pub fn write_text(
-    out: &mut String,
-    answer: Result<Option<&str>, Refusal>,
-) -> Result<(), AllocError> {
-    match answer {
-        Ok(Some(text)) => {
-            let bytes = Hex(text.as_bytes());
-            write!(out, "text x{bytes}")
-        }
-        Ok(None) => write_absent(out),
-        Err(refusal) => write_refusal(out, refusal),
+impl Told for &str {
+    fn write(self, out: &mut String) -> Result<(), AllocError> {
+        let bytes = Hex(self.as_bytes());
+        write!(out, "text x{bytes}")
     }
 }
 
-pub fn write_texts(
-    out: &mut String,
-    answer: Result<Option<StringList<'_>>, Refusal>,
-) -> Result<(), AllocError> {
-    match answer {
-        Ok(Some(texts)) => {
-            let count = texts.count();
-            write!(out, "texts {count}")?;
-            for text in texts {
-                let bytes = Hex(text.as_bytes());
-                write!(out, " x{bytes}")?;
-            }
-            Ok(())
+impl Told for StringList<'_> {
+    fn write(self, out: &mut String) -> Result<(), AllocError> {
+        let count = self.count();
+        write!(out, "texts {count}")?;
+        for text in self {
+            let bytes = Hex(text.as_bytes());
+            write!(out, " x{bytes}")?;
         }
-        Ok(None) => write_absent(out),
-        Err(refusal) => write_refusal(out, refusal),
+        Ok(())
     }
+}
+
+// Any bytes, as they are shown.
+pub fn write_shown(out: &mut String, bytes: &[u8]) -> Result<(), AllocError> {
+    write!(out, "text x")?;
+    for byte in Shown::new(bytes) {
+        write!(out, "{byte:02x}")?;
+    }
+    Ok(())
 }

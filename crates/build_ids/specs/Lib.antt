@@ -1,3 +1,4 @@
 pub mod Events
+pub mod Cursor
 pub mod Table
 pub mod Rows

@@ -1,7 +1,7 @@
 // A build id record: the mode and the path that a file was seen under, and its build id.
 ghost use Rattle.std.specs.Prelude.{◌≡◌, ◌≤◌, length};
 ghost use Rattle.std.specs.Option.{option_map};
-ghost use Rattle.build_ids.specs.Events.{event_of, event, id_of, all_zero, less_zeros};
+ghost use Rattle.build_ids.specs.Events.{event_of, event, id_of, less_zeros};
 
 use text::strings::before_nul;
 use wire::order::{ByteOrder, tail};
@@ -15,46 +15,44 @@ pub struct BuildIdEvent<'a> {
     pub size: usize,
 }
 
-// What stands before the path: type, misc, size, pid and the id.
-const FRONT: usize = 36;
+// Where the parts of a record stand: a type, then the misc, the size and a pid, then the id, and last the path.
+const MISC_AT: usize = 4;
 
-fn all_zero(bytes: &[u8]) -> bool
-    ensures { result ≡ all_zero bytes.now }
-{
-    for b in bytes {
-        if *b != 0 {
-            return false;
-        }
-    }
-    true
-}
+const SIZE_AT: usize = 6;
 
-// The first twenty bytes, less all trailing groups of four zero bytes: the length was not written down once.
+pub(crate) const ID_AT: usize = 12;
+
+pub(crate) const PATH_AT: usize = 36;
+
+// The longest id, and where its length stands behind it.
+const LONGEST_ID: usize = 20;
+
+// The flag in a misc that the length is written there.
+const LENGTH_WRITTEN: u16 = 0x8000;
+
+// The longest id, less all trailing groups of four zero bytes: the length was not written down once.
 fn less_zeros(bytes: &[u8]) -> &[u8]
     requires { 20 ≤ length bytes.now }
     ensures { result.now ≡ less_zeros 5 bytes.now }
 {
-    let mut groups = 5;
-    while groups > 0 {
-        let before = 4 * (groups - 1);
-        if !all_zero(&bytes[before..before + 4]) {
-            return &bytes[0..before + 4];
-        }
-        groups -= 1;
+    let mut id = &bytes[..LONGEST_ID];
+    while let Some(front) = id.strip_suffix(&[0, 0, 0, 0]) {
+        id = front;
     }
-    &[]
+    id
 }
 
-// The id in the 24 bytes of a record. The flag in misc says that the byte behind the first twenty is its length.
+// The id in the 24 bytes of a record that its length may stand behind.
 fn id_of(misc: u16, bytes: &[u8]) -> &[u8]
     requires { length bytes.now ≡ 24 }
     ensures { result.now ≡ id_of misc bytes.now }
 {
-    if misc / 0x8000 % 2 == 1 {
-        let len = (bytes[20] as usize).min(20);
-        return &bytes[0..len];
+    if misc & LENGTH_WRITTEN != 0 {
+        let len = usize::from(bytes[LONGEST_ID]).min(LONGEST_ID);
+        &bytes[..len]
+    } else {
+        less_zeros(bytes)
     }
-    less_zeros(bytes)
 }
 
 impl<'a> BuildIdEvent<'a> {
@@ -62,15 +60,15 @@ impl<'a> BuildIdEvent<'a> {
     pub fn parse(order: ByteOrder, bytes: &'a [u8]) -> Option<BuildIdEvent<'a>>
         ensures { option_map event_of result ≡ event order bytes.now }
     {
-        let misc = order.u16(tail(bytes, 4))?;
-        let size = (order.u16(tail(bytes, 6))? as usize).max(FRONT);
+        let misc = order.u16(tail(bytes, MISC_AT))?;
+        let size = usize::from(order.u16(tail(bytes, SIZE_AT))?).max(PATH_AT);
         if bytes.len() < size {
             return None;
         }
         Some(BuildIdEvent {
             misc,
-            build_id: id_of(misc, &bytes[12..36]),
-            path: before_nul(&bytes[36..size]),
+            build_id: id_of(misc, &bytes[ID_AT..PATH_AT]),
+            path: before_nul(&bytes[PATH_AT..size]),
             size,
         })
     }

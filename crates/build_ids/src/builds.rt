@@ -23,7 +23,7 @@ impl<'a> Builds<'a> {
     pub fn key(&self, row: &Row) -> Option<DsoKey<'a>>
         ensures { option_map key_of result ≡ key_of_row self.now.section.now row.now }
     {
-        DsoKey::detect(row.key(self.section), CpuMode::of(row.number))
+        DsoKey::detect(row.key(self.section), CpuMode::from(row.number))
     }
 
     pub fn path(&self, row: &Row) -> &'a [u8]
@@ -41,10 +41,7 @@ impl<'a> Builds<'a> {
     fn key_or_kernel(&self, row: &Row) -> DsoKey<'a>
         ensures { key_of result ≡ row_key self.now.section.now row.now }
     {
-        match self.key(row) {
-            Some(key) => key,
-            None => DsoKey::Kernel,
-        }
+        self.key(row).unwrap_or(DsoKey::Kernel)
     }
 }
 
@@ -56,6 +53,6 @@ impl Kind for Builds<'_> {
     ghost key = { λ kind row. row_key kind.section.now row };
 
     fn compare(&self, a: &Row, b: &Row) -> Ordering {
-        self.key_or_kernel(a).compare(self.key_or_kernel(b))
+        self.key_or_kernel(a).cmp(&self.key_or_kernel(b))
     }
 }

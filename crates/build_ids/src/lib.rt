@@ -2,5 +2,6 @@
 #![tactic(auto)]
 
 pub mod build_id_event;
+mod build_id_events;
 pub mod builds;
 pub mod perf_file;

@@ -6,14 +6,15 @@ ghost use Rattle.build_ids.specs.Events.{event_of};
 ghost use Rattle.build_ids.specs.Rows.{row_of, row_table, answer, left, entries_in};
 ghost use Rattle.build_ids.specs.Table.{build_ids};
 
-use crate::build_id_event::BuildIdEvent;
+use crate::build_id_event::{BuildIdEvent, ID_AT, PATH_AT};
+use crate::build_id_events::BuildIdEvents;
 use crate::builds::Builds;
 use dso_key::cpu_mode::CpuMode;
 use dso_key::least::least_mode;
 use image::store::Store;
 use table::fill::Fill;
 use table::row::{Row, blank_all};
-use wire::order::{ByteOrder, tail};
+use wire::order::ByteOrder;
 use wire::refusal::Refusal;
 
 const BUILD_ID: u32 = 2;
@@ -28,9 +29,9 @@ fn row_of(at: usize, event: BuildIdEvent<'_>) -> Option<Row>
     let number = least_mode(event.path, CpuMode::of_misc(event.misc))?;
     Some(Row {
         number,
-        key_at: (at + 36) as u32,
+        key_at: (at + PATH_AT) as u32,
         key_len: event.path.len() as u32,
-        value_at: (at + 12) as u32,
+        value_at: (at + ID_AT) as u32,
         value_len: event.build_id.len() as u32,
     })
 }
@@ -41,14 +42,11 @@ fn tabulate(order: ByteOrder, section: &[u8], rows: &mut [Row]) -> Option<usize>
     ensures count { result ≡ fits (length rows.old) (row_table order section.now) }
     ensures after { rows.new ≡ laid (length rows.old) (row_table order section.now) }
 {
-    let kind = Builds { section };
-    let mut fill = Fill::start(rows);
-    let mut at = 0;
-    while let Some(event) = BuildIdEvent::parse(order, tail(section, at)) {
+    let mut fill = Fill::start(Builds { section }, rows);
+    for (at, event) in BuildIdEvents::new(order, section) {
         if let Some(row) = row_of(at, event) {
-            fill = fill.add(&kind, rows, row);
+            fill.add(row);
         }
-        at += event.size;
     }
     fill.finish()
 }
@@ -61,10 +59,10 @@ fn read<'a, S: Store<'a>>(store: &S, rows: &mut [Row]) -> Result<Option<usize>, 
         blank_all(rows);
         return Ok(None);
     };
-    match tabulate(store.order(), section, rows) {
-        Some(used) => Ok(Some(used)),
-        None => Err(Refusal::TooFewRows { feature: BUILD_ID }),
-    }
+    let used = tabulate(store.order(), section, rows).ok_or(Refusal::TooFewRows {
+        feature: BUILD_ID,
+    })?;
+    Ok(Some(used))
 }
 
 // The table of a store's build ids in the first of the rows, and how many it uses: each row stands for a key with the path

@@ -19,30 +19,6 @@ use hexadecimal::{Hex, decode};
 use std::io::{BufRead, BufReader};
 use table::row::Row;
 use wire::order::ByteOrder;
-use wire::refusal::Refusal;
-
-fn kind(key: DsoKey<'_>) -> &'static str {
-    match key {
-        DsoKey::Kernel => "Kernel",
-        DsoKey::GuestKernel => "GuestKernel",
-        DsoKey::Vdso32 => "Vdso32",
-        DsoKey::VdsoX32 => "VdsoX32",
-        DsoKey::Vdso64 => "Vdso64",
-        DsoKey::Vsyscall => "Vsyscall",
-        DsoKey::KernelModule(_) => "KernelModule",
-        DsoKey::User(_) => "User",
-    }
-}
-
-fn print_refusal(rt: &HostRuntime, refusal: Refusal) -> anyhow::Result<()> {
-    let fault = refusal.fault();
-    let number = fault.number;
-    let layer = fault.layer as u32;
-    let feature = fault.feature;
-    let offset = fault.offset;
-    print!(rt; "refused {number} {layer} {feature} {offset}")?;
-    Ok(())
-}
 
 fn print_key(rt: &HostRuntime, misc: u16, path: &[u8]) -> anyhow::Result<()> {
     let mode = CpuMode::of_misc(misc);
@@ -55,7 +31,7 @@ fn print_key(rt: &HostRuntime, misc: u16, path: &[u8]) -> anyhow::Result<()> {
         return Err(anyhow!("a name has 512 bytes at most"));
     };
     let text = Hex(room.get(0..len).unwrap_or(b""));
-    println!(rt; "{} least {least} name x{text}", kind(key))?;
+    println!(rt; "{} least {least} name x{text}", key.kind())?;
     Ok(())
 }
 
@@ -64,7 +40,7 @@ fn print_name(rt: &HostRuntime, misc: u16, room: usize, path: &[u8]) -> anyhow::
     match name(path, misc, out.as_mut_slice()) {
         Ok(Some(len)) => print!(rt; "{len}")?,
         Ok(None) => print!(rt; "none")?,
-        Err(refusal) => print_refusal(rt, refusal)?,
+        Err(refusal) => print!(rt; "{refusal}")?,
     }
     let bytes = Hex(out.as_slice());
     println!(rt; " x{bytes}")?;
@@ -72,14 +48,14 @@ fn print_name(rt: &HostRuntime, misc: u16, room: usize, path: &[u8]) -> anyhow::
 }
 
 fn print_row(rt: &HostRuntime, builds: &Builds<'_>, row: &Row) -> anyhow::Result<()> {
-    let key = match builds.key(row) {
-        Some(key) => kind(key),
-        None => "none",
-    };
+    match builds.key(row) {
+        Some(key) => print!(rt; " {}", key.kind())?,
+        None => print!(rt; " none")?,
+    }
     let mode = row.number;
     let path = Hex(builds.path(row));
     let id = Hex(builds.id(row));
-    print!(rt; " {key} {mode} x{path} x{id}")?;
+    print!(rt; " {mode} x{path} x{id}")?;
     Ok(())
 }
 
@@ -96,27 +72,21 @@ fn print_section(rt: &HostRuntime, store: Alone<'_>, room: usize) -> anyhow::Res
             print!(rt; "{n}")?;
         }
         Ok(None) => print!(rt; "absent")?,
-        Err(refusal) => print_refusal(rt, refusal)?,
+        Err(refusal) => print!(rt; "{refusal}")?,
     }
     let builds = Builds {
-        section: store.section,
+        section: store.section.unwrap_or(b""),
     };
-    for (i, row) in rows.iter().enumerate() {
-        if i < used {
-            print_row(rt, &builds, row)?;
-        } else if *row != Row::BLANK {
+    for row in rows.iter().take(used) {
+        print_row(rt, &builds, row)?;
+    }
+    for row in rows.iter().skip(used) {
+        if *row != Row::BLANK {
             print!(rt; " stale")?;
         }
     }
     println!(rt; "")?;
     Ok(())
-}
-
-fn order_of(word: &str) -> ByteOrder {
-    match word {
-        "big" => ByteOrder::Big,
-        _ => ByteOrder::Little,
-    }
 }
 
 fn print_line(rt: &HostRuntime, line: &str) -> anyhow::Result<()> {
@@ -128,6 +98,7 @@ fn print_line(rt: &HostRuntime, line: &str) -> anyhow::Result<()> {
     };
     let mut words = words.split(' ');
     let (what, first, second) = (words.next(), words.next(), words.next());
+    // Kept: this match is the parser itself; an enum of the four lines would be matched once more, with the same arms.
     match (what, first, second) {
         (Some("key"), Some(misc), None) => print_key(rt, misc.parse::<u16>()?, &bytes),
         (Some("name"), Some(misc), Some(room)) => {
@@ -135,9 +106,12 @@ fn print_line(rt: &HostRuntime, line: &str) -> anyhow::Result<()> {
         }
         (Some(what), Some(order), Some(room)) => {
             let store = Alone {
-                order: order_of(order),
-                there: what == "section",
-                section: &bytes,
+                order: order.parse().unwrap_or(ByteOrder::Little),
+                section: if what == "section" {
+                    Some(&bytes)
+                } else {
+                    None
+                },
             };
             print_section(rt, store, room.parse::<usize>()?)
         }
@@ -145,13 +119,9 @@ fn print_line(rt: &HostRuntime, line: &str) -> anyhow::Result<()> {
     }
 }
 
-fn print_lines(rt: &HostRuntime) -> anyhow::Result<()> {
+fn main(rt: HostRuntime) -> anyhow::Result<()> {
     for line in BufReader::new(rt.alloc(), rt.stdin())?.lines(rt.alloc()) {
-        print_line(rt, line?.as_str())?;
+        print_line(&rt, line?.as_str())?;
     }
     Ok(())
-}
-
-fn main(rt: HostRuntime) -> anyhow::Result<()> {
-    print_lines(&rt)
 }

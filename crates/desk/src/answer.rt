@@ -1,21 +1,61 @@
 // Requests answered, each with one line.
 use crate::desk::Desk;
-use crate::request::{Filing, Opening, Request};
+use crate::request::{BadLine, Filing, Opening, Request};
 use hexadecimal::{Hex, decode};
 use std::io::Read;
-use std::{fs, io};
-use wire::refusal::Refusal;
+use std::{fmt, fs, io};
+use wire::refusal::{Fault, Refusal};
 
 // No image is longer. One byte more is read, which tells that a file is.
 const LONGEST_IMAGE: u64 = 16_777_216;
 
-fn print_refusal(rt: &HostRuntime, refusal: Refusal) -> io::Result<()> {
-    let fault = refusal.fault();
-    let number = fault.number;
-    let layer = fault.layer as u8;
-    let feature = fault.feature;
-    let offset = fault.offset;
-    println!(rt; "refused {number} {layer} {feature} {offset}")
+#[derive(Clone, Copy)]
+pub enum Reply<'desk, 'line> {
+    // the number of strips
+    Opened(usize),
+    Filed(u32),
+    Released(u64),
+    Counted(u32),
+    // a head
+    Shown(&'desk [u8]),
+    Refused(Refusal),
+    // a path
+    Unread(&'line str),
+    NoRequest(BadLine),
+}
+
+impl fmt::Display for Reply<'_, '_> {
+    fn fmt<W: fmt::Write>(&self, f: &mut fmt::Formatter<W>) -> fmt::Result {
+        match *self {
+            Reply::Opened(strips) => write!(f, "opened {strips}"),
+            Reply::Filed(group) => write!(f, "group {group}"),
+            Reply::Released(group) => write!(f, "released {group}"),
+            Reply::Counted(filings) => write!(f, "count {filings}"),
+            Reply::Shown(head) => {
+                let head = Hex(head);
+                write!(f, "head x{head}")
+            }
+            Reply::Refused(refusal) => {
+                let Fault {
+                    number,
+                    layer,
+                    feature,
+                    offset,
+                } = refusal.fault();
+                let layer = layer as u32;
+                write!(f, "refused {number} {layer} {feature} {offset}")
+            }
+            Reply::Unread(path) => write!(f, "cannot read {path}"),
+            Reply::NoRequest(bad) => write!(f, "{bad}"),
+        }
+    }
+}
+
+impl Reply<'_, '_> {
+    // A line that was no request did not touch the shelf.
+    fn is_to_request(&self) -> bool {
+        !matches!(*self, Reply::NoRequest(_))
+    }
 }
 
 fn read_image(rt: &HostRuntime, path: &str) -> io::Result<Vec<u8>> {
@@ -26,97 +66,77 @@ fn read_image(rt: &HostRuntime, path: &str) -> io::Result<Vec<u8>> {
     Ok(image)
 }
 
-fn file_image(
+// The answer to a filing of an image's bytes.
+fn filed<'desk, 'line>(desk: &mut Desk, filing: Filing<'_>, image: &[u8]) -> Reply<'desk, 'line> {
+    match desk.file(filing, image) {
+        Ok(group) => Reply::Filed(group),
+        Err(refusal) => Reply::Refused(refusal),
+    }
+}
+
+fn file<'desk, 'line>(
     rt: &HostRuntime,
     desk: &mut Desk,
-    filing: Filing<'_>,
-    image: &[u8],
-) -> io::Result<()> {
-    match desk.file(filing, image) {
-        Ok(group) => println!(rt; "group {group}"),
-        Err(refusal) => print_refusal(rt, refusal),
-    }
-}
-
-fn bad_line(rt: &HostRuntime) -> anyhow::Result<bool> {
-    println!(rt; "bad line")?;
-    Ok(false)
-}
-
-fn file_named(rt: &HostRuntime, desk: &mut Desk, filing: Filing<'_>) -> io::Result<()> {
+    filing: Filing<'line>,
+) -> anyhow::Result<Reply<'desk, 'line>> {
     let path = filing.source;
-    match read_image(rt, path) {
-        Ok(image) => file_image(rt, desk, filing, &image),
-        Err(_) => println!(rt; "cannot read {path}"),
-    }
-}
-
-fn file(rt: &HostRuntime, desk: &mut Desk, filing: Filing<'_>) -> anyhow::Result<bool> {
-    let Some(digits) = filing.source.strip_prefix("x") else {
-        file_named(rt, desk, filing)?;
-        return Ok(true);
+    let Some(digits) = path.strip_prefix("x") else {
+        return Ok(match read_image(rt, path) {
+            Ok(image) => filed(desk, filing, &image),
+            Err(_) => Reply::Unread(path),
+        });
     };
-    let Some(image) = decode(rt.alloc(), digits.as_bytes())? else {
-        return bad_line(rt);
-    };
-    file_image(rt, desk, filing, &image)?;
-    Ok(true)
+    Ok(match decode(rt.alloc(), digits.as_bytes())? {
+        Some(image) => filed(desk, filing, &image),
+        None => Reply::NoRequest(BadLine),
+    })
 }
 
-fn release(rt: &HostRuntime, desk: &mut Desk, group: u64) -> io::Result<()> {
-    match desk.release(group) {
-        Ok(()) => println!(rt; "released {group}"),
-        Err(refusal) => print_refusal(rt, refusal),
-    }
-}
-
-fn count(rt: &HostRuntime, desk: &Desk, group: u64) -> io::Result<()> {
-    match desk.count(group) {
-        Ok(filings) => println!(rt; "count {filings}"),
-        Err(refusal) => print_refusal(rt, refusal),
-    }
-}
-
-fn show(rt: &HostRuntime, desk: &mut Desk, group: u64, room: Option<usize>) -> io::Result<()> {
-    match desk.show(group, room) {
-        Ok(head) => {
-            let shown = Hex(head);
-            println!(rt; "head x{shown}")
-        }
-        Err(refusal) => print_refusal(rt, refusal),
-    }
-}
-
-fn print_opened(rt: &HostRuntime, desk: &Desk, answer: Result<(), Refusal>) -> io::Result<()> {
-    match answer {
-        Ok(()) => {
-            let strips = desk.strips();
-            println!(rt; "opened {strips}")
-        }
-        Err(refusal) => print_refusal(rt, refusal),
-    }
+// Such a desk is not opened again.
+fn reply_to<'desk, 'line>(
+    rt: &HostRuntime,
+    desk: &'desk mut Desk,
+    request: Request<'line>,
+) -> anyhow::Result<Reply<'desk, 'line>> {
+    Ok(match request {
+        Request::Open(_) => Reply::NoRequest(BadLine),
+        Request::File(filing) => file(rt, desk, filing)?,
+        Request::Release(group) => match desk.release(group) {
+            Ok(()) => Reply::Released(group),
+            Err(refusal) => Reply::Refused(refusal),
+        },
+        Request::Count(group) => match desk.count(group) {
+            Ok(filings) => Reply::Counted(filings),
+            Err(refusal) => Reply::Refused(refusal),
+        },
+        Request::Show(group, room) => match desk.show(group, room) {
+            Ok(head) => Reply::Shown(head),
+            Err(refusal) => Reply::Refused(refusal),
+        },
+    })
 }
 
 // Opens a desk, and says so.
 pub fn open(rt: &HostRuntime, opening: Opening) -> anyhow::Result<Desk> {
-    let (desk, answer) = Desk::open(rt.alloc(), opening)?;
-    print_opened(rt, &desk, answer)?;
+    let (desk, opened) = Desk::open(rt.alloc(), opening)?;
+    let reply = match opened {
+        Ok(()) => Reply::Opened(desk.strips()),
+        Err(refusal) => Reply::Refused(refusal),
+    };
+    println!(rt; "{reply}")?;
     Ok(desk)
 }
 
-// Answers a request to a desk that is open. Whether it was one: such a desk is not opened again.
+// Answers a line to a desk that is open. Whether it was a request.
 pub fn answer(
     rt: &HostRuntime,
     desk: &mut Desk,
-    request: Option<Request<'_>>,
+    request: Result<Request<'_>, BadLine>,
 ) -> anyhow::Result<bool> {
-    match request {
-        Some(Request::File(filing)) => return file(rt, desk, filing),
-        Some(Request::Release(group)) => release(rt, desk, group)?,
-        Some(Request::Count(group)) => count(rt, desk, group)?,
-        Some(Request::Show(group, room)) => show(rt, desk, group, room)?,
-        Some(Request::Open(_)) => return bad_line(rt),
-        None => return bad_line(rt),
-    }
-    Ok(true)
+    let reply = match request {
+        Ok(request) => reply_to(rt, desk, request)?,
+        Err(bad) => Reply::NoRequest(bad),
+    };
+    println!(rt; "{reply}")?;
+    Ok(reply.is_to_request())
 }

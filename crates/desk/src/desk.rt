@@ -1,5 +1,5 @@
 // The shelf and the memory that is lent for every call, and what is done with them.
-use crate::request::{Filing, MOST_ROWS, Opening};
+use crate::request::{Filing, Lent, MOST_ROWS, Opening};
 use image::kinds::Image;
 use shelf::shelf::Shelf;
 use std::alloc::{AllocError, Global};
@@ -16,7 +16,11 @@ pub const USUAL: Opening = Opening {
 // 64 strips of the longest kind: more bytes would hold no more.
 const MOST_BYTES: usize = 4_194_304;
 
-const USUAL_ROWS: usize = 4_096;
+// What a filing has where nothing is said.
+const USUAL_LENT: Lent = Lent {
+    rows: 4_096,
+    work: MOST_WORK,
+};
 
 // As long as the longest strip, and so as the longest head: more would not be used.
 const MOST_WORK: usize = 65_536;
@@ -31,11 +35,7 @@ pub struct Desk {
 
 // A group's number, or 0 where it is above all that there are: no group has that.
 fn group_of(number: u64) -> u32 {
-    if number > u32::MAX as u64 {
-        0
-    } else {
-        number as u32
-    }
+    u32::try_from(number).unwrap_or(0)
 }
 
 // The first of some memory, as much as is asked for and there is.
@@ -72,10 +72,7 @@ impl Desk {
     // Files the recording that some bytes are.
     pub fn file(&mut self, filing: Filing<'_>, image: &[u8]) -> Result<u32, Refusal> {
         let store = Image::open(image)?;
-        let (rows, work) = match filing.lent {
-            Some(lent) => (lent.rows, lent.work),
-            None => (USUAL_ROWS, MOST_WORK),
-        };
+        let Lent { rows, work } = filing.lent.unwrap_or(USUAL_LENT);
         self.shelf.file(
             &store,
             lent(&mut self.rows, rows),

@@ -1,5 +1,5 @@
 // Lines of standard input, one after the other.
-use crate::request::{Request, read_request};
+use crate::request::{BadLine, Request};
 use std::io;
 use std::io::{BufRead, BufReader, Stdin};
 use std::str::from_utf8;
@@ -25,12 +25,9 @@ impl Lines {
     }
 
     // The request that the line is. One that is not text is none.
-    pub fn request(&self) -> Option<Request<'_>> {
-        let bytes = match self.line.as_slice() {
-            [bytes @ .., b'\n'] => bytes,
-            bytes => bytes,
-        };
-        let text = from_utf8(bytes).ok()?;
-        read_request(text)
+    pub fn request(&self) -> Result<Request<'_>, BadLine> {
+        let line = self.line.as_slice();
+        let text = from_utf8(line.strip_suffix(b"\n").unwrap_or(line)).map_err(|_| BadLine)?;
+        Request::try_from(text)
     }
 }

@@ -1,4 +1,6 @@
 // A request, taken from a line.
+use std::fmt;
+use std::str::FromStr;
 
 // Numbers are decimal. What a shelf has to judge, as a group that is none, is passed on to it.
 #[derive(Clone, Copy)]
@@ -31,81 +33,100 @@ pub struct Lent {
     pub work: usize,
 }
 
-// The first word of a line, and what follows the space behind it, if there is one.
-fn first_word(line: &str) -> (&str, Option<&str>) {
-    match line.split_once(' ') {
-        Some((word, rest)) => (word, Some(rest)),
-        None => (line, None),
+// A line that is no request.
+#[derive(Clone, Copy, Debug)]
+pub struct BadLine;
+
+impl fmt::Display for BadLine {
+    fn fmt<W: fmt::Write>(&self, f: &mut fmt::Formatter<W>) -> fmt::Result {
+        write!(f, "bad line")
     }
-}
-
-// A number of decimal digits alone.
-fn number(word: &str) -> Option<u64> {
-    if word.starts_with('+') {
-        return None;
-    }
-    word.parse::<u64>().ok()
-}
-
-fn size(word: &str) -> Option<usize> {
-    Some(number(word)? as usize)
-}
-
-fn read_open(rest: &str) -> Option<Request<'_>> {
-    let (strip, rest) = rest.split_once(' ')?;
-    let (first, bytes) = rest.split_once(' ')?;
-    Some(Request::Open(Opening {
-        strip: size(strip)?,
-        first: number(first)?,
-        bytes: size(bytes)?,
-    }))
-}
-
-fn read_lent(words: Option<&str>) -> Option<Option<Lent>> {
-    let Some(words) = words else {
-        return Some(None);
-    };
-    let (rows, work) = words.split_once(' ')?;
-    let rows = size(rows)?;
-    if rows > MOST_ROWS {
-        return None;
-    }
-    let work = size(work)?;
-    Some(Some(Lent { rows, work }))
 }
 
 // No filing has more rows: they are made once.
 pub const MOST_ROWS: usize = 65_536;
 
-fn read_file(rest: &str) -> Option<Request<'_>> {
-    let (source, words) = first_word(rest);
-    if source.is_empty() {
-        return None;
+// A number of decimal digits alone.
+fn number(word: &str) -> Result<u64, BadLine> {
+    if word.starts_with('+') {
+        return Err(BadLine);
     }
-    Some(Request::File(Filing {
-        source,
-        lent: read_lent(words)?,
-    }))
+    word.parse::<u64>().map_err(|_| BadLine)
 }
 
-fn read_show(rest: &str) -> Option<Request<'_>> {
-    let (group, words) = first_word(rest);
-    let room = match words {
-        Some(word) => Some(size(word)?),
-        None => None,
-    };
-    Some(Request::Show(number(group)?, room))
+fn size(word: &str) -> Result<usize, BadLine> {
+    Ok(number(word)? as usize)
 }
 
-// None where a line is no request.
-pub fn read_request(line: &str) -> Option<Request<'_>> {
-    let (name, rest) = line.split_once(' ')?;
-    match name {
-        "open" => read_open(rest),
-        "file" => read_file(rest),
-        "release" => Some(Request::Release(number(rest)?)),
-        "count" => Some(Request::Count(number(rest)?)),
-        "show" => read_show(rest),
-        _ => None,
+// Two words, with a space between them.
+fn pair(words: &str) -> Result<(&str, &str), BadLine> {
+    words.split_once(' ').ok_or(BadLine)
+}
+
+// The first word of some, and the others where a space follows it.
+fn first_word(words: &str) -> (&str, Option<&str>) {
+    match words.split_once(' ') {
+        Some((word, others)) => (word, Some(others)),
+        None => (words, None),
+    }
+}
+
+impl FromStr for Opening {
+    type Err = BadLine;
+
+    fn from_str(words: &str) -> Result<Opening, BadLine> {
+        let (strip, words) = pair(words)?;
+        let (first, bytes) = pair(words)?;
+        Ok(Opening {
+            strip: size(strip)?,
+            first: number(first)?,
+            bytes: size(bytes)?,
+        })
+    }
+}
+
+impl FromStr for Lent {
+    type Err = BadLine;
+
+    fn from_str(words: &str) -> Result<Lent, BadLine> {
+        let (rows, work) = pair(words)?;
+        let rows = size(rows)?;
+        if rows > MOST_ROWS {
+            return Err(BadLine);
+        }
+        let work = size(work)?;
+        Ok(Lent { rows, work })
+    }
+}
+
+impl<'a> TryFrom<&'a str> for Filing<'a> {
+    type Error = BadLine;
+
+    fn try_from(words: &'a str) -> Result<Filing<'a>, BadLine> {
+        let (source, lent) = first_word(words);
+        if source.is_empty() {
+            return Err(BadLine);
+        }
+        let lent = lent.map(|words| words.parse::<Lent>()).transpose()?;
+        Ok(Filing { source, lent })
+    }
+}
+
+impl<'a> TryFrom<&'a str> for Request<'a> {
+    type Error = BadLine;
+
+    fn try_from(line: &'a str) -> Result<Request<'a>, BadLine> {
+        let (name, words) = pair(line)?;
+        match name {
+            "open" => Ok(Request::Open(words.parse()?)),
+            "file" => Ok(Request::File(Filing::try_from(words)?)),
+            "release" => Ok(Request::Release(number(words)?)),
+            "count" => Ok(Request::Count(number(words)?)),
+            "show" => {
+                let (group, room) = first_word(words);
+                Ok(Request::Show(number(group)?, room.map(size).transpose()?))
+            }
+            _ => Err(BadLine),
+        }
     }
 }

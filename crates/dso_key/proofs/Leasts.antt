@@ -1,5 +1,6 @@
 -- The modes are tried one after another.
-use Rattle.std.proofs.Common.{◌≡◌, ℕ, zero, suc, ◌+◌, ◌-◌, ◌<◌, ◌≤◌, Bool, true, false, cond, List, is_some, IfSome, Some, None, Option, Ordering, Less, Equal, Greater, sym, refl, ap, ◌∙◌, ⊎_elim, true≢false, arith}
+use Rattle.std.proofs.Common.{◌≡◌, ℕ, zero, suc, ◌+◌, ◌<◌, ◌≤◌, Bool, true, false, cond, List, is_some, IfSome, Some, None, Option, Ordering, Less, Equal, Greater, sym, refl, ap, ◌∙◌, ⊎_elim, true≢false, arith}
+use Rattle.std.specs.Option.{MatchOption}
 use Rattle.std.specs.Ordering.{is_lt, is_eq, is_gt, ordering_reverse}
 use Rattle.std.proofs.lemmas.Bool.{cases_lt}
 use Rattle.dso_key.specs.declared.cpu_mode.CpuMode.{CpuMode}
@@ -29,24 +30,30 @@ the_self : (key : Key) (o : Option Key) → o ≡ Some key → is_the key o ≡ 
 the_self key o e = ap (is_the key) e ∙ still (keys.cmp key key) (keys.flip key key)
 
 module _ (path : List ℕ) (key : Key) where
-  pub from_none : (n m : ℕ) → n ≡ 0 → least_from n m path key ≡ None
-  unfolding least_from
-  from_none n m e = ap (λ k. least_from k m path key) e
-
   step : (n m : ℕ) (b : Bool) → b ≡ is_the key (detect path (mode_of m)) → least_from (suc n) m path key ≡ cond b (Some m) (least_from n (suc m) path key)
   unfolding least_from
   step n m b e = ap (λ t. cond t (Some m) (least_from n (suc m) path key)) (sym e)
 
-  pub from_here : (n m : ℕ) → 0 < n → true ≡ is_the key (detect path (mode_of m)) → least_from n m path key ≡ Some m
-  from_here zero m l e = absurd (omega arith)
-  from_here (suc n) m l e = step n m true e
+  -- what is found first among the modes
+  none_gives : (n m : ℕ) → ((k : ℕ) → m ≤ k → k < m + n → is_the key (detect path (mode_of k)) ≡ false) → least_from n m path key ≡ None
+  unfolding least_from
+  none_gives zero m none = refl
+  none_gives (suc n) m none =
+      step n m false (sym (none m (omega arith) (omega arith))) ∙ none_gives n (suc m) (λ k l u. none k (omega arith) (omega arith))
 
-  pub from_more : (n m : ℕ) → 0 < n → false ≡ is_the key (detect path (mode_of m)) → least_from n m path key ≡ least_from (n - 1) (m + 1) path key
-  from_more zero m l e = absurd (omega arith)
-  from_more (suc n) m l e =
-      let p : n ≡ suc n - 1 = omega arith in
-      let q : suc m ≡ m + 1 = omega arith in
-      step n m false e ∙ (λ i. least_from (p i) (q i) path key)
+  first_gives : (n m i : ℕ) → m ≤ i → i < m + n → is_the key (detect path (mode_of i)) ≡ true → ((k : ℕ) → m ≤ k → k < i → is_the key (detect path (mode_of k)) ≡ false) → least_from n m path key ≡ Some i
+  first_gives zero m i l u e none = absurd (omega arith)
+  first_gives (suc n) m i l u e none =
+      let more = first_gives n (suc m) i in
+      ⊎_elim
+      (λ up. step n m false (sym (none m (omega arith) up)) ∙ more (omega arith) (omega arith) e (λ k a b. none k (omega arith) b))
+      (λ low.
+      let q : i ≡ m = omega arith in
+      step n m true (sym e ∙ ap (λ k. is_the key (detect path (mode_of k))) q) ∙ ap Some (sym q)) (cases_lt m i)
+
+  pub found_first : (r : Option ℕ) → MatchOption r ((k : ℕ) → 0 ≤ k → k < 6 → is_the key (detect path (mode_of k)) ≡ false) (λ i. (0 ≤ i) × (i < 6) × (is_the key (detect path (mode_of i)) ≡ true) × ((k : ℕ) → 0 ≤ k → k < i → is_the key (detect path (mode_of k)) ≡ false)) → r ≡ least_from 6 0 path key
+  found_first None h = sym (none_gives 6 0 h)
+  found_first (Some i) h = sym (first_gives 6 0 i h.0 h.1 h.2 h.3)
 
   -- what is found gives the key, and is one of the modes
   gives_by : (n m : ℕ) (b : Bool) → b ≡ is_the key (detect path (mode_of m)) → IfSome (least_from n (suc m) path key) (λ k. (k < suc m + n) × (detect path (mode_of k) ≡ Some key)) → IfSome (cond b (Some m) (least_from n (suc m) path key)) (λ k. (k < m + suc n) × (detect path (mode_of k) ≡ Some key))

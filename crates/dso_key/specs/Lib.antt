@@ -1,6 +1,7 @@
 pub mod Modes
 pub mod Paths
 pub mod Keys
+pub mod Kinds
 pub mod Detect
 pub mod Order
 pub mod Names

@@ -6,16 +6,17 @@ ghost use Rattle.dso_key.specs.Keys.{key_of, written};
 
 use crate::cpu_mode::CpuMode;
 use crate::dso_key::{DsoKey, ModuleName};
-use crate::path::{begins, file_name, same, stem};
+use crate::path::{file_name, stem};
 
 // Memory that no file lies behind.
+#[tactic(auto, unfolding(crate::specs::Detect::is_no_file))]
 fn is_no_file(path: &[u8]) -> bool
     ensures { result ≡ is_no_file path.now }
 {
-    same(path, b"//anon")
-        || same(path, b"[stack]")
-        || same(path, b"[heap]")
-        || same(path, b"[vvar]")
+    path == b"//anon".as_slice()
+        || path == b"[stack]".as_slice()
+        || path == b"[heap]".as_slice()
+        || path == b"[vvar]".as_slice()
 }
 
 // The kernel that stands under its own name: in a guest kernel's mode the guest's.
@@ -29,35 +30,31 @@ fn kernel_by(mode: CpuMode) -> DsoKey<'static>
 }
 
 // What the kernel maps into every process.
+#[tactic(auto, unfolding(crate::specs::Detect::vdso_key))]
 fn vdso(path: &[u8]) -> Option<DsoKey<'_>>
     ensures { option_map key_of result ≡ vdso_key path.now }
 {
-    if same(path, b"[vdso32]") {
-        return Some(DsoKey::Vdso32);
+    if path == b"[vdso32]".as_slice() {
+        Some(DsoKey::Vdso32)
+    } else if path == b"[vdsox32]".as_slice() {
+        Some(DsoKey::VdsoX32)
+    } else if path == b"[vdso]".as_slice() {
+        Some(DsoKey::Vdso64)
+    } else if path == b"[vsyscall]".as_slice() {
+        Some(DsoKey::Vsyscall)
+    } else {
+        None
     }
-    if same(path, b"[vdsox32]") {
-        return Some(DsoKey::VdsoX32);
-    }
-    if same(path, b"[vdso]") {
-        return Some(DsoKey::Vdso64);
-    }
-    if same(path, b"[vsyscall]") {
-        return Some(DsoKey::Vsyscall);
-    }
-    None
 }
 
 // The name of the module that a path stands for in a kernel's mode, if it is one's.
 fn module(path: &[u8]) -> Option<ModuleName<'_>>
     ensures { option_map written result ≡ module_name path.now }
 {
-    if begins(path, b"[") {
+    if path.starts_with(b"[") {
         return Some(ModuleName::Written(path));
     }
-    match stem(file_name(path)) {
-        Some(name) => Some(ModuleName::Stem(name)),
-        None => None,
-    }
+    stem(file_name(path)).map(ModuleName::Stem)
 }
 
 // What is left: the kernel itself under some path, or a file.
@@ -73,26 +70,27 @@ fn by_mode(path: &[u8], mode: CpuMode) -> Option<DsoKey<'_>>
 }
 
 impl<'a> DsoKey<'a> {
+    #[tactic(auto, unfolding(crate::specs::Detect::detect))]
     pub fn detect(path: &'a [u8], mode: CpuMode) -> Option<DsoKey<'a>>
         ensures { option_map key_of result ≡ detected path.now mode }
     {
         if is_no_file(path) {
             return None;
         }
-        if begins(path, b"[kernel.kallsyms]") {
+        if path.starts_with(b"[kernel.kallsyms]") {
             return Some(kernel_by(mode));
         }
-        if begins(path, b"[guest.kernel.kallsyms") {
+        if path.starts_with(b"[guest.kernel.kallsyms") {
             return Some(DsoKey::GuestKernel);
         }
-        if let Some(key) = vdso(path) {
-            return Some(key);
-        }
-        if mode.is_kernel() {
-            if let Some(name) = module(path) {
-                return Some(DsoKey::KernelModule(name));
-            }
-        }
-        by_mode(path, mode)
+        vdso(path)
+            .or_else(|| {
+                if mode.is_kernel() {
+                    module(path).map(DsoKey::KernelModule)
+                } else {
+                    None
+                }
+            })
+            .or_else(|| by_mode(path, mode))
     }
 }

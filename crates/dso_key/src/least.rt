@@ -7,30 +7,18 @@ ghost use Rattle.dso_key.specs.Modes.{mode_of};
 
 use crate::cpu_mode::CpuMode;
 use crate::dso_key::DsoKey;
-use std::cmp::Ordering;
 
 // Whether a path has a key in a mode.
 fn gives(path: &[u8], mode: CpuMode, key: DsoKey<'_>) -> bool
     ensures { result ≡ is_the (key_of key.entry) (detect path.now mode) }
 {
-    let Some(found) = DsoKey::detect(path, mode) else {
-        return false;
-    };
-    match found.compare(key) {
-        Ordering::Equal => true,
-        _ => false,
-    }
+    DsoKey::detect(path, mode) == Some(key)
 }
 
 fn least_giving(path: &[u8], key: DsoKey<'_>) -> Option<u32>
     ensures { result ≡ least_from 6 0 path.now (key_of key.entry) }
 {
-    for number in 0..6u32 {
-        if gives(path, CpuMode::of(number), key) {
-            return Some(number);
-        }
-    }
-    None
+    (0..CpuMode::COUNT).find(|number| gives(path, CpuMode::from(*number), key))
 }
 
 fn least(path: &[u8], mode: CpuMode) -> Option<u32>

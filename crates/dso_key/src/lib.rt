@@ -5,6 +5,7 @@
 pub mod cpu_mode;
 pub mod detect;
 pub mod dso_key;
+pub mod kind;
 pub mod least;
 pub mod name;
 mod order;

@@ -1,16 +1,16 @@
 // The names of keys, byte by byte: nothing is copied.
-ghost use Rattle.std.specs.Prelude.{◌≡◌, ◌++◌, length};
+ghost use Rattle.std.specs.Prelude.{◌≡◌, ◌++◌};
 ghost use Rattle.text.specs.Pieces.{shown};
-ghost use Rattle.text.specs.Showing.{Gives};
 ghost use Rattle.dso_key.specs.Keys.{key_of, written};
 ghost use Rattle.dso_key.specs.Names.{name_of, to_come};
-ghost use Rattle.std.specs.Iterator.{at_most};
+ghost use Rattle.std.specs.Iterator.{YieldsFirst, item_count};
 
 use crate::dso_key::{DsoKey, ModuleName};
 use crate::path::file_name;
 use text::shown::Shown;
 
 // Bytes that stand as they are, then the shown form of a text, and then bytes that stand as they are.
+// Kept: as two of std's `Chain`s it would hold four flags of what is done, and what is to come would be told by cases of them.
 #[derive(Drop)]
 pub struct Name<'a> {
     front: &'a [u8],
@@ -21,9 +21,9 @@ pub struct Name<'a> {
 impl<'a> Iterator for Name<'a> {
     type Item = u8;
 
-    ghost next_gives = { λ s r t. Gives (to_come s) r (to_come t) };
+    ghost next_gives = { YieldsFirst to_come };
 
-    ghost remaining = { λ s. at_most (length (to_come s)) };
+    ghost remaining = { item_count to_come };
 
     fn next(&mut self) -> Option<u8> {
         if let [b, more @ ..] = self.front {

@@ -1,44 +1,40 @@
-// The order of the keys. What two keys of a kind go by is compared byte by byte, as it is written.
-ghost use Rattle.std.specs.Prelude.{◌≡◌};
+// The order of the keys: by kind, and within a kind by what its keys go by, byte by byte as it is written. Keys are equal
+// that are one key, though they may be written differently.
+ghost use Rattle.std.specs.Prelude.{◌≡◌, refl};
+ghost use Rattle.std.specs.Cmp.{partial_equiv_from_equiv, eq_by_cmp_equiv, po};
+ghost use Rattle.std.specs.Ordering.{eq_by_cmp, as_partial_cmp};
 ghost use Rattle.table.specs.Order.{texts};
 ghost use Rattle.dso_key.specs.Keys.{key_of};
+ghost use Rattle.dso_key.specs.Kinds.{kind_of};
 ghost use Rattle.dso_key.specs.Names.{to_come};
-ghost use Rattle.dso_key.specs.Order.{keys, rank_of, text_of};
+ghost use Rattle.dso_key.specs.Order.{rank_of, text_of, by_key, by_key_total};
 
 use crate::dso_key::DsoKey;
+use crate::kind::DsoKind;
 use crate::name::{Name, fixed};
 use std::cmp::Ordering;
 
-fn compare_bytes(mut a: Name<'_>, mut b: Name<'_>) -> Ordering
-    ensures { result ≡ texts.cmp (to_come a.entry) (to_come b.entry) }
-{
-    loop {
-        match (a.next(), b.next()) {
-            (None, None) => return Ordering::Equal,
-            (None, Some(_)) => return Ordering::Less,
-            (Some(_), None) => return Ordering::Greater,
-            (Some(x), Some(y)) => match x.cmp(&y) {
-                Ordering::Equal => {}
-                unequal => return unequal,
-            },
+impl<'a> DsoKey<'a> {
+    pub fn kind(self) -> DsoKind
+        ensures { result ≡ kind_of (key_of self.entry) }
+    {
+        match self {
+            DsoKey::Kernel => DsoKind::Kernel,
+            DsoKey::GuestKernel => DsoKind::GuestKernel,
+            DsoKey::Vdso32 => DsoKind::Vdso32,
+            DsoKey::VdsoX32 => DsoKind::VdsoX32,
+            DsoKey::Vdso64 => DsoKind::Vdso64,
+            DsoKey::Vsyscall => DsoKind::Vsyscall,
+            DsoKey::KernelModule(_) => DsoKind::KernelModule,
+            DsoKey::User(_) => DsoKind::User,
         }
     }
-}
 
-impl<'a> DsoKey<'a> {
+    // The place of the kind among the kinds.
     fn rank(self) -> u32
         ensures { result ≡ rank_of (key_of self.entry) }
     {
-        match self {
-            DsoKey::Kernel => 0,
-            DsoKey::GuestKernel => 1,
-            DsoKey::Vdso32 => 2,
-            DsoKey::VdsoX32 => 3,
-            DsoKey::Vdso64 => 4,
-            DsoKey::Vsyscall => 5,
-            DsoKey::KernelModule(_) => 6,
-            DsoKey::User(_) => 7,
-        }
+        self.kind() as u32
     }
 
     // What keys of the kind go by.
@@ -52,11 +48,49 @@ impl<'a> DsoKey<'a> {
         }
     }
 
-    pub fn compare(self, other: DsoKey<'_>) -> Ordering
-        ensures { result ≡ keys.cmp (key_of self.entry) (key_of other.entry) }
+    fn compare_texts(self, other: DsoKey<'_>) -> Ordering
+        ensures { result ≡ texts.cmp (text_of (key_of self.entry)) (text_of (key_of other.entry)) }
     {
+        self.text().cmp(other.text())
+    }
+}
+
+impl PartialEq for DsoKey<'_> {
+    ghost eq = { eq_by_cmp by_key };
+
+    ghost laws = { partial_equiv_from_equiv (eq_by_cmp_equiv by_key_total) };
+
+    fn eq(&self, other: &Self) -> bool {
+        self.cmp(other).is_eq()
+    }
+}
+
+impl Eq for DsoKey<'_> {
+    ghost laws = { eq_by_cmp_equiv by_key_total };
+}
+
+impl PartialOrd for DsoKey<'_> {
+    ghost partial_cmp = { as_partial_cmp by_key };
+
+    ghost laws = { po by_key_total (λ x y. refl) };
+
+    fn partial_cmp(&self, other: &Self) -> Option<Ordering> {
+        Some(self.cmp(other))
+    }
+}
+
+impl Ord for DsoKey<'_> {
+    ghost cmp = { by_key };
+
+    ghost total = { by_key_total };
+
+    ghost matches_partial_cmp = { λ x y. refl };
+
+    ghost matches_eq = { λ x y. refl };
+
+    fn cmp(&self, other: &Self) -> Ordering {
         match self.rank().cmp(&other.rank()) {
-            Ordering::Equal => compare_bytes(self.text(), other.text()),
+            Ordering::Equal => self.compare_texts(*other),
             unequal => unequal,
         }
     }

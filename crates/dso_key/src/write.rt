@@ -7,19 +7,19 @@ ghost use Rattle.dso_key.specs.Write.{name_for, length_in, written_to};
 use crate::cpu_mode::CpuMode;
 use crate::dso_key::DsoKey;
 use crate::name::Name;
-use put::put;
+use put::Writer;
 use wire::refusal::Refusal;
 
 // Writes those of a name's bytes that fall inside `out`, and answers how many there are in all.
-fn put_name(out: &mut [u8], mut name: Name<'_>) -> usize
+fn put_name(out: &mut [u8], name: Name<'_>) -> usize
     ensures place { result ≡ place (length (to_come name.entry)) }
     ensures after { out.new ≡ overlay out.old 0 (to_come name.entry) }
 {
-    let mut at = 0;
-    while let Some(b) = name.next() {
-        at = put(out, at, &[b]);
+    let mut w = Writer::new(out);
+    for b in name {
+        w.put(&[b]);
     }
-    at
+    w.at()
 }
 
 // Writes the name of the key that a path has in the mode of a misc, and answers its length; nothing where there is no key.

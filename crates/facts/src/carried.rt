@@ -2,47 +2,50 @@
 ghost use Rattle.std.specs.Prelude.{◌≡◌};
 ghost use Rattle.facts.specs.Facts.{number as number_of};
 
-// By rising numbers.
+// By rising numbers, which are those of their sections.
 #[derive(Clone, Copy, PartialEq, Eq, Debug)]
 pub enum Carried {
-    BuildId,
-    Hostname,
-    OsRelease,
-    Version,
-    Arch,
-    NrCpus,
-    CpuDesc,
-    CpuId,
-    TotalMem,
-    CmdLine,
-    PmuMappings,
-    Stat,
-    ClockId,
-    SimpleperfFile,
-    SimpleperfMetaInfo,
+    BuildId = 2,
+    Hostname = 3,
+    OsRelease = 4,
+    Version = 5,
+    Arch = 6,
+    NrCpus = 7,
+    CpuDesc = 8,
+    CpuId = 9,
+    TotalMem = 10,
+    CmdLine = 11,
+    PmuMappings = 16,
+    Stat = 19,
+    ClockId = 23,
+    SimpleperfFile = 128,
+    SimpleperfMetaInfo = 129,
 }
 
 impl Carried {
+    // All of them, by rising numbers.
+    pub const ALL: [Carried; 15] = [
+        Carried::BuildId,
+        Carried::Hostname,
+        Carried::OsRelease,
+        Carried::Version,
+        Carried::Arch,
+        Carried::NrCpus,
+        Carried::CpuDesc,
+        Carried::CpuId,
+        Carried::TotalMem,
+        Carried::CmdLine,
+        Carried::PmuMappings,
+        Carried::Stat,
+        Carried::ClockId,
+        Carried::SimpleperfFile,
+        Carried::SimpleperfMetaInfo,
+    ];
+
     // The feature's number.
     pub fn number(self) -> u16
         ensures { result ≡ number_of self }
     {
-        match self {
-            Carried::BuildId => 2,
-            Carried::Hostname => 3,
-            Carried::OsRelease => 4,
-            Carried::Version => 5,
-            Carried::Arch => 6,
-            Carried::NrCpus => 7,
-            Carried::CpuDesc => 8,
-            Carried::CpuId => 9,
-            Carried::TotalMem => 10,
-            Carried::CmdLine => 11,
-            Carried::PmuMappings => 16,
-            Carried::Stat => 19,
-            Carried::ClockId => 23,
-            Carried::SimpleperfFile => 128,
-            Carried::SimpleperfMetaInfo => 129,
-        }
+        self as u16
     }
 }

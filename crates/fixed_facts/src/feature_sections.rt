@@ -4,63 +4,78 @@ ghost use Rattle.wire.specs.declared.order.ByteOrder.{ByteOrder as Order};
 ghost use Rattle.wire.specs.declared.refusal.Fault.{Fault};
 ghost use Rattle.fixed_facts.specs.Fixed.{field, whole64, nr_cpus, sample_time_range, compression_info, clock_data, total_mem, clock_frequency, parsed};
 
+use perf_data::features::Feature;
 use wire::order::{ByteOrder, tail};
 use wire::refusal::Refusal;
 
-// The feature whose section a fact is, and how many bytes it has.
-#[derive(Clone, Copy)]
-pub struct Layout {
-    pub feature: u32,
-    pub size: usize,
-}
-
-// A fact of a fixed length. In generic code a constant is a value that nothing is known of, so `layout` gives both, with a
-// contract.
+// A fact of a fixed length: the feature whose section it is, how many bytes it has, and what they are read as.
 pub trait FixedFact: Sized {
     const FEATURE: u32;
 
     const STRUCT_SIZE: usize;
 
-    ghost number: { ℕ };
+    // the two constants, for contracts
+    ghost FEATURE: { ℕ };
 
-    ghost size: { ℕ };
+    ghost STRUCT_SIZE: { ℕ };
 
     // What its bytes are read as.
     ghost read: { Order → List ℕ → Answer Self Fault };
-
-    fn layout() -> Layout
-        ensures feature { result.feature ≡ number }
-        ensures size { result.size ≡ size };
 
     fn parse(order: ByteOrder, bytes: &[u8]) -> Result<Self, Refusal>
         ensures { parsed result ≡ read order bytes.now };
 }
 
-fn u32_field(feature: u32, order: ByteOrder, bytes: &[u8], at: u32) -> Result<u32, Refusal>
-    ensures { parsed result ≡ field feature order 4 bytes.now at }
-{
-    match order.u32(tail(bytes, at as usize)) {
-        Some(n) => Ok(n),
-        None => Err(Refusal::CutShort { feature, at }),
-    }
+// The bytes of a feature's section, and the order that its numbers have.
+#[derive(Clone, Copy)]
+struct Fields<'a> {
+    feature: u32,
+    order: ByteOrder,
+    bytes: &'a [u8],
 }
 
-fn u64_field(feature: u32, order: ByteOrder, bytes: &[u8], at: u32) -> Result<u64, Refusal>
-    ensures { parsed result ≡ field feature order 8 bytes.now at }
-{
-    match order.u64(tail(bytes, at as usize)) {
-        Some(n) => Ok(n),
-        None => Err(Refusal::CutShort { feature, at }),
+impl<'a> Fields<'a> {
+    fn new(feature: u32, order: ByteOrder, bytes: &'a [u8]) -> Fields<'a>
+        ensures feature { result.feature ≡ feature }
+        ensures order { result.order ≡ order }
+        ensures bytes { result.bytes.now ≡ bytes.now }
+    {
+        Fields {
+            feature,
+            order,
+            bytes,
+        }
     }
-}
 
-// The one number of a section that is a u64.
-fn whole_u64(feature: u32, order: ByteOrder, bytes: &[u8]) -> Result<u64, Refusal>
-    ensures { parsed result ≡ whole64 feature order bytes.now }
-{
-    match order.u64(bytes) {
-        Some(n) => Ok(n),
-        None => Err(Refusal::SectionTooSmall { feature }),
+    // Kept: two widths by two methods. `ByteOrder` reads each width by a method of its own, so one generic method would have to
+    // be handed that method, and each of the 13 calls would be longer by it.
+    fn u32_at(&self, at: u32) -> Result<u32, Refusal>
+        ensures { parsed result ≡ field self.now.feature self.now.order 4 self.now.bytes.now at }
+    {
+        let number = self.order.u32(tail(self.bytes, at as usize));
+        number.ok_or(Refusal::CutShort {
+            feature: self.feature,
+            at,
+        })
+    }
+
+    fn u64_at(&self, at: u32) -> Result<u64, Refusal>
+        ensures { parsed result ≡ field self.now.feature self.now.order 8 self.now.bytes.now at }
+    {
+        let number = self.order.u64(tail(self.bytes, at as usize));
+        number.ok_or(Refusal::CutShort {
+            feature: self.feature,
+            at,
+        })
+    }
+
+    // The one number of a section that is a u64.
+    fn whole_u64(&self) -> Result<u64, Refusal>
+        ensures { parsed result ≡ whole64 self.now.feature self.now.order self.now.bytes.now }
+    {
+        self.order.u64(self.bytes).ok_or(Refusal::SectionTooSmall {
+            feature: self.feature,
+        })
     }
 }
 
@@ -72,27 +87,21 @@ pub struct NrCpus {
 }
 
 impl FixedFact for NrCpus {
-    const FEATURE: u32 = 7;
+    const FEATURE: u32 = Feature::NRCPUS.0;
 
     const STRUCT_SIZE: usize = 8;
 
-    ghost number = { 7 };
+    ghost FEATURE = { 7 };
 
-    ghost size = { 8 };
+    ghost STRUCT_SIZE = { 8 };
 
     ghost read = { nr_cpus };
 
-    fn layout() -> Layout {
-        Layout {
-            feature: Self::FEATURE,
-            size: Self::STRUCT_SIZE,
-        }
-    }
-
     fn parse(order: ByteOrder, bytes: &[u8]) -> Result<NrCpus, Refusal> {
+        let fields = Fields::new(Self::FEATURE, order, bytes);
         Ok(NrCpus {
-            nr_cpus_available: u32_field(Self::FEATURE, order, bytes, 0)?,
-            nr_cpus_online: u32_field(Self::FEATURE, order, bytes, 4)?,
+            nr_cpus_available: fields.u32_at(0)?,
+            nr_cpus_online: fields.u32_at(4)?,
         })
     }
 }
@@ -104,26 +113,20 @@ pub struct TotalMem {
 }
 
 impl FixedFact for TotalMem {
-    const FEATURE: u32 = 10;
+    const FEATURE: u32 = Feature::TOTAL_MEM.0;
 
     const STRUCT_SIZE: usize = 8;
 
-    ghost number = { 10 };
+    ghost FEATURE = { 10 };
 
-    ghost size = { 8 };
+    ghost STRUCT_SIZE = { 8 };
 
     ghost read = { total_mem };
 
-    fn layout() -> Layout {
-        Layout {
-            feature: Self::FEATURE,
-            size: Self::STRUCT_SIZE,
-        }
-    }
-
     fn parse(order: ByteOrder, bytes: &[u8]) -> Result<TotalMem, Refusal> {
+        let fields = Fields::new(Self::FEATURE, order, bytes);
         Ok(TotalMem {
-            kilobytes: whole_u64(Self::FEATURE, order, bytes)?,
+            kilobytes: fields.whole_u64()?,
         })
     }
 }
@@ -136,27 +139,21 @@ pub struct SampleTimeRange {
 }
 
 impl FixedFact for SampleTimeRange {
-    const FEATURE: u32 = 21;
+    const FEATURE: u32 = Feature::SAMPLE_TIME.0;
 
     const STRUCT_SIZE: usize = 16;
 
-    ghost number = { 21 };
+    ghost FEATURE = { 21 };
 
-    ghost size = { 16 };
+    ghost STRUCT_SIZE = { 16 };
 
     ghost read = { sample_time_range };
 
-    fn layout() -> Layout {
-        Layout {
-            feature: Self::FEATURE,
-            size: Self::STRUCT_SIZE,
-        }
-    }
-
     fn parse(order: ByteOrder, bytes: &[u8]) -> Result<SampleTimeRange, Refusal> {
+        let fields = Fields::new(Self::FEATURE, order, bytes);
         Ok(SampleTimeRange {
-            first_sample_time: u64_field(Self::FEATURE, order, bytes, 0)?,
-            last_sample_time: u64_field(Self::FEATURE, order, bytes, 8)?,
+            first_sample_time: fields.u64_at(0)?,
+            last_sample_time: fields.u64_at(8)?,
         })
     }
 }
@@ -168,26 +165,20 @@ pub struct ClockFrequency {
 }
 
 impl FixedFact for ClockFrequency {
-    const FEATURE: u32 = 23;
+    const FEATURE: u32 = Feature::CLOCKID.0;
 
     const STRUCT_SIZE: usize = 8;
 
-    ghost number = { 23 };
+    ghost FEATURE = { 23 };
 
-    ghost size = { 8 };
+    ghost STRUCT_SIZE = { 8 };
 
     ghost read = { clock_frequency };
 
-    fn layout() -> Layout {
-        Layout {
-            feature: Self::FEATURE,
-            size: Self::STRUCT_SIZE,
-        }
-    }
-
     fn parse(order: ByteOrder, bytes: &[u8]) -> Result<ClockFrequency, Refusal> {
+        let fields = Fields::new(Self::FEATURE, order, bytes);
         Ok(ClockFrequency {
-            ns_per_tick: whole_u64(Self::FEATURE, order, bytes)?,
+            ns_per_tick: fields.whole_u64()?,
         })
     }
 }
@@ -204,30 +195,24 @@ pub struct CompressionInfo {
 }
 
 impl FixedFact for CompressionInfo {
-    const FEATURE: u32 = 27;
+    const FEATURE: u32 = Feature::COMPRESSED.0;
 
     const STRUCT_SIZE: usize = 20;
 
-    ghost number = { 27 };
+    ghost FEATURE = { 27 };
 
-    ghost size = { 20 };
+    ghost STRUCT_SIZE = { 20 };
 
     ghost read = { compression_info };
 
-    fn layout() -> Layout {
-        Layout {
-            feature: Self::FEATURE,
-            size: Self::STRUCT_SIZE,
-        }
-    }
-
     fn parse(order: ByteOrder, bytes: &[u8]) -> Result<CompressionInfo, Refusal> {
+        let fields = Fields::new(Self::FEATURE, order, bytes);
         Ok(CompressionInfo {
-            version: u32_field(Self::FEATURE, order, bytes, 0)?,
-            type_: u32_field(Self::FEATURE, order, bytes, 4)?,
-            level: u32_field(Self::FEATURE, order, bytes, 8)?,
-            ratio: u32_field(Self::FEATURE, order, bytes, 12)?,
-            mmap_len: u32_field(Self::FEATURE, order, bytes, 16)?,
+            version: fields.u32_at(0)?,
+            type_: fields.u32_at(4)?,
+            level: fields.u32_at(8)?,
+            ratio: fields.u32_at(12)?,
+            mmap_len: fields.u32_at(16)?,
         })
     }
 }
@@ -241,31 +226,25 @@ pub struct ClockData {
 }
 
 impl FixedFact for ClockData {
-    const FEATURE: u32 = 29;
+    const FEATURE: u32 = Feature::CLOCK_DATA.0;
 
     const STRUCT_SIZE: usize = 24;
 
-    ghost number = { 29 };
+    ghost FEATURE = { 29 };
 
-    ghost size = { 24 };
+    ghost STRUCT_SIZE = { 24 };
 
     ghost read = { clock_data };
 
-    fn layout() -> Layout {
-        Layout {
-            feature: Self::FEATURE,
-            size: Self::STRUCT_SIZE,
-        }
-    }
-
     fn parse(order: ByteOrder, bytes: &[u8]) -> Result<ClockData, Refusal> {
-        if u32_field(Self::FEATURE, order, bytes, 0)? != 1 {
+        let fields = Fields::new(Self::FEATURE, order, bytes);
+        if fields.u32_at(0)? != 1 {
             return Err(Refusal::WrongClockVersion);
         }
         Ok(ClockData {
-            clockid: u32_field(Self::FEATURE, order, bytes, 4)?,
-            wall_clock_ns: u64_field(Self::FEATURE, order, bytes, 8)?,
-            clockid_time_ns: u64_field(Self::FEATURE, order, bytes, 16)?,
+            clockid: fields.u32_at(4)?,
+            wall_clock_ns: fields.u64_at(8)?,
+            clockid_time_ns: fields.u64_at(16)?,
         })
     }
 }

@@ -1,5 +1,5 @@
 // The questions that sections of a fixed length answer.
-ghost use Rattle.std.specs.Prelude.{◌≡◌, take, is_some};
+ghost use Rattle.std.specs.Prelude.{◌≡◌, is_some};
 ghost use Rattle.perf_data.specs.Questions.{question, answered};
 ghost use Rattle.fixed_facts.specs.Fixed.{of_first, nr_cpus, total_mem, sample_time_range, clock_frequency, compression_info, clock_data};
 
@@ -7,28 +7,18 @@ use crate::feature_sections::{
     ClockData, ClockFrequency, CompressionInfo, FixedFact, NrCpus, SampleTimeRange, TotalMem,
 };
 use image::store::Store;
+use perf_data::features::Feature;
 use wire::refusal::Refusal;
-
-// The first bytes, as many as `size` or as there are.
-fn front(bytes: &[u8], size: usize) -> &[u8]
-    ensures { result.now ≡ take size bytes.now }
-{
-    if size < bytes.len() {
-        &bytes[0..size]
-    } else {
-        bytes
-    }
-}
 
 // Of a section that is a fact of a fixed length. Further bytes are ignored.
 fn fixed_fact<'a, F: FixedFact, S: Store<'a>>(store: &S) -> Result<Option<F>, Refusal>
-    ensures { answered (λ x. x) result ≡ question (of_first F.FixedFact.size F.FixedFact.read) (S.endian store.now) ((S.map store.now).at F.FixedFact.number) }
+    ensures { answered (λ x. x) result ≡ question (of_first F.STRUCT_SIZE F.read) (S.endian store.now) ((S.map store.now).at F.FEATURE) }
 {
-    let layout = F::layout();
-    match store.section(layout.feature) {
-        None => Ok(None),
-        Some(section) => Ok(Some(F::parse(store.order(), front(section, layout.size))?)),
-    }
+    let Some(section) = store.section(F::FEATURE) else {
+        return Ok(None);
+    };
+    let bytes = section.get(..F::STRUCT_SIZE).unwrap_or(section);
+    Ok(Some(F::parse(store.order(), bytes)?))
 }
 
 pub fn nr_cpus<'a, S: Store<'a>>(store: &S) -> Result<Option<NrCpus>, Refusal>
@@ -71,5 +61,5 @@ pub fn clock_data<'a, S: Store<'a>>(store: &S) -> Result<Option<ClockData>, Refu
 pub fn is_stats<'a, S: Store<'a>>(store: &S) -> bool
     ensures { result ≡ is_some ((S.map store.now).at 19) }
 {
-    store.section(19).is_some()
+    store.section(Feature::STAT.0).is_some()
 }

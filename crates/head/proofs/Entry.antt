@@ -1,56 +1,72 @@
 -- The entry of a fact: its bytes are written first, and then what stands before them.
-use Rattle.std.proofs.Common.{◌≡◌, ℕ, ◌+◌, ◌-◌, ◌^◌, ◌<◌, List, [], ◌++◌, length, Some, None, Ok, Err, Option, sym, refl, ap, ◌∙◌, subst, arith}
+use Rattle.std.proofs.Common.{◌≡◌, ℕ, ◌+◌, ◌-◌, ◌^◌, ◌<◌, Bool, true, false, [], ◌++◌, length, IsErrAnd, Some, None, Ok, Err, Result, sym, refl, ap, ◌∙◌, subst, arith}
 use Rattle.std.proofs.lemmas.List.{append_assoc, length-append}
+use Rattle.wire.specs.Faults.{fault_of}
+use Rattle.wire.specs.declared.refusal.Refusal.{Refusal}
 use Rattle.wire.proofs.Digits.{length-bytes_of}
-use Rattle.put.specs.Overlay.{overlay, place}
-use Rattle.put.proofs.Overlays.{overlay-before}
+use Rattle.put.specs.Overlay.{place}
+use Rattle.put.specs.declared.writer.Writer.{Writer}
+use Rattle.put.specs.Appends.{Appends, Goes}
+use Rattle.put.proofs.Chains.{appends_before, appends_then, appends_same}
+use Rattle.put_facts.specs.Writes.{in_bytes, Writes}
 use Rattle.facts.specs.declared.carried.Carried.{Carried}
 use Rattle.facts.specs.Facts.{Fact, number, write}
 use Rattle.facts.specs.Head.{Answer, framed, entry}
-use Rattle.facts.specs.Places.{placed, overlaid}
 use Rattle.facts.specs.Written.{u16, u32}
 use Rattle.head_laws.proofs.Found.{not_ok, Small}
 use Rattle.head.specs.Wrote.{Wrote}
-use Rattle.head.proofs.Writes.{behind, wrote, wrote_none}
+use Rattle.head.proofs.Writes.{appends_nothing, wrote, broken}
 
--- ---- what an answer was, by the place that was answered
+-- ---- what an answer was, by what was answered
+
+-- there was a fault
+pub wrote_refused : (f : Carried) (r : Answer) (e : Refusal) (q : Result (Unit {0}) Refusal) {b : ℕ} {u v w : Writer} → Goes b u v → Writes (in_bytes r) v (Err e) w → IsErrAnd q (λ y. y ≡ e) → Wrote (entry f r) u q w
+wrote_refused f (Ok None) e q leave w b = not_ok (fault_of e) false w.answers
+wrote_refused f (Ok (Some x)) e q leave w b = not_ok (fault_of e) true w.answers
+wrote_refused f (Err y) e q leave w b =
+    let p = w.answers in
+    let is : fault_of e ≡ y = cc in
+    broken q e (w.appends.same_reference ∙ leave.same_reference) b (ap (λ z. Err z) (sym is))
 
 -- there was no fact, and nothing is written
-pub wrote_absent : (f : Carried) (r : Answer) (a b : ℕ) {x : Option ℕ} {o p : List ℕ} → x ≡ None → Ok x ≡ placed b r → p ≡ overlaid b r o → Wrote (entry f r) a o (Ok a) p
-wrote_absent f (Ok None) a b {x} {o} n e w = subst (λ (z : List ℕ). Wrote (Ok []) a o (Ok a) z) (sym w) (wrote_none a o refl)
-wrote_absent f (Ok (Some v)) a b n e w = let z : ◌≡◌ {A = ℕ} 0 1 = cc in absurd (omega arith)
-wrote_absent f (Err y) a b {x} n e w = not_ok y x (sym e)
+pub wrote_absent : (f : Carried) (r : Answer) {b e : ℕ} {u v w z : Writer} → Goes b u v → Writes (in_bytes r) v (Ok false) w → e ≡ u.at → Goes e w z → Wrote (entry f r) u (Ok tt) z
+wrote_absent f (Ok None) leave w from on = wrote [] refl (appends_nothing leave w.appends from on)
+wrote_absent f (Ok (Some x)) leave w from on = let p = w.answers in let z : ◌≡◌ {A = ℕ} 0 1 = cc in absurd (omega arith)
+wrote_absent f (Err y) leave w from on = not_ok y false (sym w.answers)
 
 -- a fact that was written
-pub record Body (r : Answer) (b end : ℕ) (o p : List ℕ) : Type 0 where
+pub record Body (r : Answer) (v w : Writer) : Type 0 where
   pub fact : Fact
   pub is : r ≡ Ok (Some fact)
-  pub place : end ≡ b + length (write fact)
-  pub bytes : p ≡ overlay o b (write fact)
+  pub appends : Appends (write fact) v w
   pub small : length (write fact) < 2 ^ 32
 
-pub body : (r : Answer) {b end : ℕ} {x : Option ℕ} {o p : List ℕ} → b < 2 ^ 40 → Small r → x ≡ Some end → Ok x ≡ placed b r → p ≡ overlaid b r o → Body r b end o p
-body (Ok (Some v)) {b} {end} h small i e w =
-    let q : end ≡ place (b + length (write v)) = cc in
-    record { fact = v; is = refl; place = omega arith; bytes = w; small = small }
-body (Ok None) h small i e w = let z : ◌≡◌ {A = ℕ} 0 1 = cc in absurd (omega arith)
-body (Err y) {b} {end} {x} h small i e w = not_ok y x (sym e)
+pub body : (r : Answer) {v w : Writer} → Small r → Writes (in_bytes r) v (Ok true) w → Body r v w
+body (Ok (Some x)) small w = record { fact = x; is = refl; appends = w.appends; small = small }
+body (Ok None) small w = let p = w.answers in let z : ◌≡◌ {A = ℕ} 0 1 = cc in absurd (omega arith)
+body (Err y) small w = not_ok y true (sym w.answers)
+
+-- where it ends
+pub body_end : {r : Answer} {u v w : Writer} {from end : ℕ} (b : Body r v w) → from < 2 ^ 40 → Goes from u v → end ≡ w.at → end ≡ from + length (write b.fact)
+body_end {r} {u} {v} {w} {from} {end} b low leave ends =
+    let bytes = write b.fact in
+    let goes : w.at ≡ place (v.at + length bytes) = b.appends.puts.goes in
+    let place : v.at ≡ from = leave.place in
+    omega (arith, b.small)
 
 -- number and length in front of it
-pub entry_some : (f : Carried) (r : Answer) (a end n len : ℕ) {o p q q' : List ℕ} → Body r (a + 6) end o p → n ≡ number f → len ≡ end - a - 6 → q ≡ overlay p a (u16 n) → q' ≡ overlay q (a + 2) (u32 len) → Wrote (entry f r) a o (Ok end) q'
+pub entry_some : (f : Carried) (r : Answer) (start from end n len : ℕ) {u v w v' one w' z : Writer} → Body r v w → start ≡ u.at → from ≡ start + 6 → from < 2 ^ 40 → Goes from u v → end ≡ w.at → Goes start w v' → n ≡ number f → Appends (u16 n) v' one → len ≡ end - from → Appends (u32 len) one w' → Goes end w' z → Wrote (entry f r) u (Ok tt) z
 unfolding framed
-entry_some f r a end n len {o} {p} b i l x y =
+entry_some f r start from end n len b at six low leave ends back i first l second on =
     let bytes = write b.fact in
-    let size : len ≡ length bytes = omega (arith, b.place) in
-    let two = length-bytes_of 2 n in
-    let four = length-bytes_of 4 len in
-    let start : List ℕ = u16 n ++ u32 len in
-    let six : a + 6 ≡ a + length start = omega (arith, length-append (u16 n) (u32 len)) in
-    wrote (framed (number f) bytes)
-    (ap (λ (z : Answer). entry f z) b.is)
-    (omega (arith, b.place, length-append (u16 (number f)) (u32 (length bytes) ++ bytes), length-append (u32 (length bytes)) bytes, length-bytes_of 2 (number f), length-bytes_of 4 (length bytes)))
-    (behind p a (a + 2) (u16 n) (u32 len) x (omega arith) y
-    ∙ (ap (λ (z : List ℕ). overlay z a start) (b.bytes ∙ ap (λ (k : ℕ). overlay o k bytes) six)
-    ∙ (overlay-before o a start bytes
-    ∙ (ap (λ (z : List ℕ). overlay o a z) (append_assoc (u16 n) (u32 len) bytes)
-    ∙ (λ j. overlay o a (u16 (i j) ++ (u32 (size j) ++ bytes)))))))
+    let so : end ≡ from + length bytes = body_end b low leave ends in
+    let size : len ≡ length bytes = omega arith in
+    let left : from ≡ place (start + length (u16 n ++ u32 len)) =
+    omega (arith, length-append (u16 n) (u32 len), length-bytes_of 2 n, length-bytes_of 4 len) in
+    wrote (u16 (number f) ++ (u32 (length bytes) ++ bytes)) (ap (λ (z : Answer). entry f z) b.is)
+    (appends_same (append_assoc (u16 n) (u32 len) bytes ∙ (λ j. u16 (i j) ++ (u32 (size j) ++ bytes)))
+    (appends_before at left leave b.appends ends back (appends_then first second) on))
+
+-- what was answered, where a test told it
+pub answer_is : (r : Answer) {b t : Bool} {v w : Writer} → b ≡ t → Writes (in_bytes r) v (Ok b) w → Writes (in_bytes r) v (Ok t) w
+answer_is r {b} {t} {v} {w} e x = subst (λ (z : Bool). Writes (in_bytes r) v (Ok z) w) e x

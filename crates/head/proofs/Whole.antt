@@ -1,13 +1,15 @@
 -- A head is counted, and then written; and it speaks for its store.
-use Rattle.std.proofs.Common.{◌≡◌, ℕ, ◌+◌, ◌≤◌, min, Bool, true, false, cond, ltb, List, ◌++◌, length, take, drop, is_some, IfOk, Some, None, Ok, Err, Option, Result, sym, refl, ap, ◌∙◌, subst, arith, Bor}
+use Rattle.std.proofs.Common.{◌≡◌, ℕ, ◌+◌, ◌<◌, ◌≤◌, min, Bool, true, false, cond, ltb, List, ◌++◌, length, take, drop, is_some, IfOk, Some, None, Ok, Err, Option, Result, sym, refl, ap, ◌∙◌, subst, arith, Bor}
 use Rattle.std.proofs.lemmas.List.{take_at}
-use Rattle.std.proofs.lemmas.Bool.{le-ltb, ltb-false, cond-false}
+use Rattle.std.proofs.lemmas.Bool.{le-ltb, lt-ltb, ltb-false, cond-false}
 use Rattle.wire.specs.Faults.{section_fault, state_fault}
 use Rattle.wire.specs.declared.order.ByteOrder.{ByteOrder}
 use Rattle.wire.specs.declared.refusal.Fault.{Fault}
 use Rattle.wire.specs.declared.refusal.Refusal.{Refusal}
 use Rattle.image.specs.Held.{Features, held}
-use Rattle.put.specs.Overlay.{overlay}
+use Rattle.put.specs.Overlay.{overlay, place}
+use Rattle.put.specs.declared.writer.Writer.{Writer}
+use Rattle.put.specs.Appends.{Appends}
 use Rattle.put.proofs.Overlays.{overlay_front}
 use Rattle.facts.specs.Head.{Sections, answer, entries, mark, carried, head_of, fitted, length_of, ahead, outcome}
 use Rattle.facts.specs.Laws.{HeadsSpeak, Spoken, Speaks}
@@ -21,11 +23,11 @@ same_some : (r : Option (Bor (List ℕ))) (x : Option (List ℕ)) → held r ≡
 same_some None x e = ap is_some e
 same_some (Some r) x e = ap is_some e
 
-pub whole_wrote : (n : ℕ) (o : ByteOrder) (at : Sections) (s : Option (Bor (List ℕ))) {b : ℕ} {out p q : List ℕ} {r : Result ℕ Refusal} → held s ≡ at 132 → is_some s ≡ false → b ≡ 0 + length mark → p ≡ overlay out 0 mark → Wrote (entries (answer n o at) carried) b p r q → Wrote (head_of n o at) 0 out r q
-whole_wrote n o at s {b} {out} {p} {q} {r} e absent f g w =
-    subst (λ (x : Result (List ℕ) Fault). Wrote x 0 out r q)
+pub whole_wrote : (n : ℕ) (o : ByteOrder) (at : Sections) (s : Option (Bor (List ℕ))) {u v w : Writer} {r : Result (Unit {0}) Refusal} → held s ≡ at 132 → is_some s ≡ false → Appends mark u v → Wrote (entries (answer n o at) carried) v r w → Wrote (head_of n o at) u r w
+whole_wrote n o at s {u} {v} {w} {r} e absent a wrote =
+    subst (λ (x : Result (List ℕ) Fault). Wrote x u r w)
     (sym (cond-false (is_some (at 132)) (Err (section_fault 16 132 0)) _ (sym (same_some s (at 132) e) ∙ absent)))
-    (wrote_behind mark (entries (answer n o at) carried) f g w)
+    (wrote_behind mark (entries (answer n o at) carried) a wrote)
 
 -- ---- counted, and then written
 
@@ -33,18 +35,27 @@ pub record Answered (x : Result (List ℕ) Fault) (o : List ℕ) (r : Result ℕ
   pub answer : outcome r ≡ length_of (fitted (length o) x)
   pub after : p ≡ ahead (fitted (length o) x) o
 
-pub head-fits : (x : Result (List ℕ) Fault) (o : List ℕ) (n : ℕ) {c q p : List ℕ} {r : Result ℕ Refusal} → Wrote x 0 c (Ok n) q → n ≤ min (length o) 16777216 → Wrote x 0 o r p → Answered x o r p
-head-fits (Ok h) o n w l v =
-    let q = w.place in
-    let e : n ≡ 0 + length h = cc in
+pub head-fits : (x : Result (List ℕ) Fault) (o : List ℕ) (n : ℕ) {c q u v : Writer} {s t : Unit {0}} → c.at ≡ 0 → Wrote x c (Ok s) q → n ≡ q.at → u.out.now ≡ o → u.at ≡ 0 → n ≤ min (length o) 16777216 → Wrote x u (Ok t) v → Answered x o (Ok n) v.out.now
+head-fits (Ok h) o n {c} {q} {u} {v} from w is lent front l again =
+    let counted = w.appends h refl in
+    let written = again.appends h refl in
+    let goes : q.at ≡ place (c.at + length h) = counted.puts.goes in
+    let long : n ≡ length h = omega arith in
     let k : length h ≤ length o = omega arith in
-    let z : 0 + length h ≡ length h = omega arith in
     let t : fitted (length o) (Ok h) ≡ Ok h = cond-false _ _ _ (le-ltb (min (length o) 16777216) (length h) (omega arith)) in
     record {
-      answer = v.place ∙ (ap (λ (m : ℕ). Ok m) z ∙ sym (ap length_of t));
-      after = v.bytes h refl ∙ (overlay_front o h k ∙ sym (ap (λ (y : Result (List ℕ) Fault). ahead y o) t));
+      answer = ap (λ (m : ℕ). Ok m) long ∙ sym (ap length_of t);
+      after = written.puts.leaves ∙ ((λ i. overlay (lent i) (front i) h) ∙ (overlay_front o h k ∙ sym (ap (λ (y : Result (List ℕ) Fault). ahead y o) t)));
     }
-head-fits (Err y) o n w l v = not_ok y n (sym w.place)
+head-fits (Err y) o n {c} {q} {u} {v} {s} from w is lent front l again = not_ok y s (sym w.answers)
+
+pub head-too-long : (x : Result (List ℕ) Fault) (room n : ℕ) {c q : Writer} {s : Unit {0}} → c.at ≡ 0 → Wrote x c (Ok s) q → n ≡ q.at → min room 16777216 < n → fitted room x ≡ Err (state_fault 32 256)
+head-too-long (Ok h) room n {c} {q} from w is over =
+    let counted = w.appends h refl in
+    let goes : q.at ≡ place (c.at + length h) = counted.puts.goes in
+    let long : min room 16777216 < length h = omega arith in
+    ap (λ (b : Bool). cond b (Err (state_fault 32 256)) (Ok h)) (lt-ltb (min room 16777216) (length h) long)
+head-too-long (Err y) room n {c} {q} {s} from w is over = not_ok y s (sym w.answers)
 
 -- ---- it speaks
 

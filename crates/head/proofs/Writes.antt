@@ -1,57 +1,67 @@
 -- One write after another.
-use Rattle.std.proofs.Common.{◌≡◌, ℕ, ◌+◌, List, [], ◌++◌, length, IsErrAnd, Ok, Err, Result, sym, refl, ap, ◌∙◌, subst, arith}
-use Rattle.std.proofs.lemmas.List.{append_assoc, append-nil, length-append}
+use Rattle.std.proofs.Common.{◌≡◌, ℕ, List, [], ◌++◌, IsErrAnd, Ok, Err, Result, sym, refl, ap, ◌∙◌, subst}
+use Rattle.std.proofs.lemmas.List.{append_assoc, append-nil}
 use Rattle.wire.specs.Faults.{fault_of}
 use Rattle.wire.specs.declared.refusal.Fault.{Fault}
 use Rattle.wire.specs.declared.refusal.Refusal.{Refusal}
-use Rattle.put.specs.Overlay.{overlay}
-use Rattle.put.proofs.Overlays.{overlay_behind, overlay-none}
+use Rattle.put.specs.declared.writer.Writer.{Writer}
+use Rattle.put.specs.Appends.{Appends, Goes}
+use Rattle.put.proofs.Chains.{appends_then, appends_none, appends_same, puts_none}
+use Rattle.put.proofs.Overlays.{overlay-none}
 use Rattle.facts.specs.Head.{after}
 use Rattle.head_laws.proofs.Found.{not_ok}
-use Rattle.head.specs.Wrote.{place_after, Wrote}
+use Rattle.head.specs.Wrote.{done_of, Wrote}
 
--- `x` and then `y` behind it
-pub behind : (o : List ℕ) {p q : List ℕ} (a b : ℕ) (x y : List ℕ) → p ≡ overlay o a x → b ≡ a + length x → q ≡ overlay p b y → q ≡ overlay o a (x ++ y)
-behind o a b x y e f g =
-    g ∙ (ap (λ (z : List ℕ). overlay z b y) e ∙ (ap (λ (n : ℕ). overlay (overlay o a x) n y) f ∙ overlay_behind o a x y))
+-- a writer that went on, put nothing, and went back
+pub appends_nothing : {b e : ℕ} {u v w z : Writer} → Goes b u v → Appends [] v w → e ≡ u.at → Goes e w z → Appends [] u z
+appends_nothing {b} {e} {u} {v} {w} {z} leave a from on = record {
+  same_reference = on.same_reference ∙ (a.same_reference ∙ leave.same_reference);
+  puts = record {
+    goes = on.place ∙ (from ∙ (puts_none u.out.now u.at u.counts).goes);
+    leaves =
+        on.leaves
+        ∙ (a.puts.leaves ∙ (overlay-none v.out.now v.at ∙ (leave.leaves ∙ sym (overlay-none u.out.now u.at))));
+  };
+}
 
 -- all was written
-pub wrote : {x : Result (List ℕ) Fault} {o p : List ℕ} {a n : ℕ} (y : List ℕ) → x ≡ Ok y → n ≡ a + length y → p ≡ overlay o a y → Wrote x a o (Ok n) p
-wrote {x} {o} {p} {a} {n} y e f g =
-    record {
-      place = ap (λ (k : ℕ). Ok k) f ∙ sym (ap (λ (z : Result (List ℕ) Fault). place_after a z) e);
-      bytes = λ z h. let q : y ≡ z = cc in g ∙ ap (λ (w : List ℕ). overlay o a w) q;
-    }
+pub wrote : {x : Result (List ℕ) Fault} {u v : Writer} (y : List ℕ) → x ≡ Ok y → Appends y u v → Wrote x u (Ok tt) v
+wrote {x} {u} {v} y e a = record {
+  same_reference = a.same_reference;
+  answers = sym (ap (λ (z : Result (List ℕ) Fault). done_of z) e);
+  appends = λ z h. let q : y ≡ z = cc in appends_same q a;
+}
 
 -- there was a fault
-pub refused : {x : Result (List ℕ) Fault} {o p : List ℕ} {a : ℕ} (e : Refusal) → x ≡ Err (fault_of e) → Wrote x a o (Err e) p
-refused {x} {o} {p} {a} e h =
-    record { place = sym (ap (λ (z : Result (List ℕ) Fault). place_after a z) h); bytes = λ y k. not_ok (fault_of e) y (sym h ∙ k) }
+pub refused : {x : Result (List ℕ) Fault} {u v : Writer} (e : Refusal) → v.out.ghost_name ≡ u.out.ghost_name → x ≡ Err (fault_of e) → Wrote x u (Err e) v
+refused {x} e same h = record {
+  same_reference = same;
+  answers = sym (ap (λ (z : Result (List ℕ) Fault). done_of z) h);
+  appends = λ y k. not_ok (fault_of e) y (sym h ∙ k);
+}
 
 -- the same where a `?` returned it
-pub broken : {x : Result (List ℕ) Fault} {o p : List ℕ} {a : ℕ} (r : Result ℕ Refusal) (e : Refusal) → IsErrAnd r (λ y. y ≡ e) → x ≡ Err (fault_of e) → Wrote x a o r p
-broken {x} {o} {p} {a} (Err y) e b h = subst (λ (z : Refusal). Wrote x a o (Err z) p) (sym b) (refused e h)
-broken (Ok n) e b h = absurd b
-
--- nothing was to be written
-pub wrote_none : {x : Result (List ℕ) Fault} (a : ℕ) (o : List ℕ) → x ≡ Ok [] → Wrote x a o (Ok a) o
-wrote_none a o e = wrote [] e (omega arith) (sym (overlay-none o a))
+pub broken : {x : Result (List ℕ) Fault} {u v : Writer} (r : Result (Unit {0}) Refusal) (e : Refusal) → v.out.ghost_name ≡ u.out.ghost_name → IsErrAnd r (λ y. y ≡ e) → x ≡ Err (fault_of e) → Wrote x u r v
+broken {x} {u} {v} (Err y) e same b h = subst (λ (z : Refusal). Wrote x u (Err z) v) (sym b) (refused e same h)
+broken (Ok n) e same b h = absurd b
 
 -- what a write that went well tells, and one that did not
-pub wrote_ok : (x : Result (List ℕ) Fault) {a n : ℕ} {o p : List ℕ} → Wrote x a o (Ok n) p → (y : List ℕ) × (x ≡ Ok y) × (n ≡ a + length y) × (p ≡ overlay o a y)
-wrote_ok (Ok y) w = let q = w.place in (y, refl, cc, w.bytes y refl)
-wrote_ok (Err e) {a} {n} w = not_ok e n (sym w.place)
+pub wrote_ok : (x : Result (List ℕ) Fault) {u v : Writer} {t : Unit {0}} → Wrote x u (Ok t) v → (y : List ℕ) × (x ≡ Ok y) × Appends y u v
+wrote_ok (Ok y) w = (y, refl, w.appends y refl)
+wrote_ok (Err e) {u} {v} {t} w = not_ok e t (sym w.answers)
 
-pub wrote_err : (x : Result (List ℕ) Fault) (e : Refusal) {a : ℕ} {o p : List ℕ} → Wrote x a o (Err e) p → x ≡ Err (fault_of e)
-wrote_err (Ok y) e {a} w = not_ok (fault_of e) (a + length y) w.place
-wrote_err (Err y) e w = let q = w.place in cc
+pub wrote_err : (x : Result (List ℕ) Fault) (e : Refusal) {u v : Writer} → Wrote x u (Err e) v → x ≡ Err (fault_of e)
+wrote_err (Ok y) e w = not_ok (fault_of e) tt w.answers
+wrote_err (Err f) e w =
+    let p = w.answers in
+    let q : fault_of e ≡ f = cc in
+    ap (λ (z : Fault). Err z) (sym q)
 
--- On the way: of the bytes `x`, some are written from `a` on, up to `b`, and `rest` is what is left of them.
-pub record Going (x : Result (List ℕ) Fault) (a : ℕ) (o : List ℕ) (rest : Result (List ℕ) Fault) (b : ℕ) (p : List ℕ) : Type 0 where
+-- The bytes `x` are to be put, and `done` of them are; `rest` is still to be put.
+pub record Going (x : Result (List ℕ) Fault) (u : Writer) (rest : Result (List ℕ) Fault) (v : Writer) : Type 0 where
   pub done : List ℕ
   pub is : x ≡ after (Ok done) rest
-  pub place : b ≡ a + length done
-  pub bytes : p ≡ overlay o a done
+  pub appends : Appends done u v
 
 after_none : (r : Result (List ℕ) Fault) → r ≡ after (Ok []) r
 after_none (Ok x) = refl
@@ -61,32 +71,33 @@ after-after : (x y : List ℕ) (r : Result (List ℕ) Fault) → after (Ok x) (a
 after-after x y (Ok z) = ap (λ (w : List ℕ). Ok w) (sym (append_assoc x y z))
 after-after x y (Err e) = refl
 
-pub going_none : (x : Result (List ℕ) Fault) (a : ℕ) (o : List ℕ) → Going x a o x a o
-going_none x a o = record { done = []; is = after_none x; place = omega arith; bytes = sym (overlay-none o a) }
+pub going_none : (x : Result (List ℕ) Fault) (u : Writer) → Going x u x u
+going_none x u = record { done = []; is = after_none x; appends = appends_none u }
 
-pub going_more : {x rest : Result (List ℕ) Fault} {a b c : ℕ} {o p q : List ℕ} (y : List ℕ) (more : Result (List ℕ) Fault) → Going x a o rest b p → rest ≡ after (Ok y) more → c ≡ b + length y → q ≡ overlay p b y → Going x a o more c q
-going_more {x} {rest} {a} {b} {c} {o} {p} {q} y more g e f h =
-    record {
-      done = g.done ++ y;
-      is = g.is ∙ (ap (λ (r : Result (List ℕ) Fault). after (Ok g.done) r) e ∙ after-after g.done y more);
-      place = omega (arith, g.place, length-append g.done y);
-      bytes = behind o a b g.done y g.bytes g.place h;
-    }
+pub going_more : {x rest : Result (List ℕ) Fault} {u v w : Writer} (y : List ℕ) (more : Result (List ℕ) Fault) → Going x u rest v → rest ≡ after (Ok y) more → Appends y v w → Going x u more w
+going_more y more g e a = record {
+  done = g.done ++ y;
+  is = g.is ∙ (ap (λ (r : Result (List ℕ) Fault). after (Ok g.done) r) e ∙ after-after g.done y more);
+  appends = appends_then g.appends a;
+}
 
-pub going_all : {x rest : Result (List ℕ) Fault} {a b : ℕ} {o p : List ℕ} → Going x a o rest b p → rest ≡ Ok [] → Wrote x a o (Ok b) p
-going_all {x} {rest} g e =
-    wrote g.done (g.is ∙ (ap (λ (r : Result (List ℕ) Fault). after (Ok g.done) r) e ∙ ap (λ (w : List ℕ). Ok w) (append-nil g.done))) g.place g.bytes
+pub going_all : {x rest : Result (List ℕ) Fault} {u v : Writer} → Going x u rest v → rest ≡ Ok [] → Wrote x u (Ok tt) v
+going_all g e =
+    wrote g.done (g.is ∙ (ap (λ (r : Result (List ℕ) Fault). after (Ok g.done) r) e ∙ ap (λ (w : List ℕ). Ok w) (append-nil g.done))) g.appends
 
-pub going_broken : {x rest : Result (List ℕ) Fault} {a b : ℕ} {o p q : List ℕ} (r : Result ℕ Refusal) (e : Refusal) → Going x a o rest b p → IsErrAnd r (λ y. y ≡ e) → rest ≡ Err (fault_of e) → Wrote x a o r q
-going_broken r e g b h = broken r e b (g.is ∙ ap (λ (z : Result (List ℕ) Fault). after (Ok g.done) z) h)
+pub going_broken : {x rest : Result (List ℕ) Fault} {u v w : Writer} (r : Result (Unit {0}) Refusal) (e : Refusal) → Going x u rest v → w.out.ghost_name ≡ v.out.ghost_name → IsErrAnd r (λ y. y ≡ e) → rest ≡ Err (fault_of e) → Wrote x u r w
+going_broken r e g same b h =
+    broken r e (same ∙ g.appends.same_reference) b (g.is ∙ ap (λ (z : Result (List ℕ) Fault). after (Ok g.done) z) h)
 
 -- bytes before others
-pub wrote_behind : (y : List ℕ) (x : Result (List ℕ) Fault) {a b : ℕ} {o p q : List ℕ} {r : Result ℕ Refusal} → b ≡ a + length y → p ≡ overlay o a y → Wrote x b p r q → Wrote (after (Ok y) x) a o r q
-wrote_behind y (Ok z) {a} {b} {o} {p} {q} {r} f g w =
-    record {
-      place = w.place ∙ ap (λ (k : ℕ). Ok k) (omega (arith, length-append y z));
-      bytes = λ u h.
-          let e : y ++ z ≡ u = cc in
-          behind o a b y z g f (w.bytes z refl) ∙ ap (λ (v : List ℕ). overlay o a v) e;
-    }
-wrote_behind y (Err e) {a} {b} {o} {p} {q} {r} f g w = record { place = w.place; bytes = λ u h. not_ok e u h }
+pub wrote_behind : (y : List ℕ) (x : Result (List ℕ) Fault) {u v w : Writer} {r : Result (Unit {0}) Refusal} → Appends y u v → Wrote x v r w → Wrote (after (Ok y) x) u r w
+wrote_behind y (Ok z) a w = record {
+  same_reference = w.same_reference ∙ a.same_reference;
+  answers = w.answers;
+  appends = λ t h. let e : y ++ z ≡ t = cc in appends_same e (appends_then a (w.appends z refl));
+}
+wrote_behind y (Err e) a w = record {
+  same_reference = w.same_reference ∙ a.same_reference;
+  answers = w.answers;
+  appends = λ t h. not_ok e t h;
+}

@@ -11,13 +11,11 @@ use std::fmt;
 fn digit(c: u8) -> Option<u8>
     ensures { result ≡ digit_of c }
 {
-    if b'0' <= c && c <= b'9' {
-        return Some(c - b'0');
+    match c {
+        b'0'..=b'9' => Some(c - b'0'),
+        b'a'..=b'f' => Some(c - b'a' + 10),
+        _ => None,
     }
-    if b'a' <= c && c <= b'f' {
-        return Some(c - b'a' + 10);
-    }
-    None
 }
 
 // The bytes that some text writes; none where it is not made of pairs of digits.
@@ -27,16 +25,13 @@ pub fn decode(heap: Global, text: &[u8]) -> Result<Option<Vec<u8>>, AllocError>
     let mut bytes = Vec::new(heap);
     let mut rest = text;
     while let [a, b, more @ ..] = rest {
-        let Some(high) = digit(*a) else {
-            return Ok(None);
-        };
-        let Some(low) = digit(*b) else {
+        let (Some(high), Some(low)) = (digit(*a), digit(*b)) else {
             return Ok(None);
         };
         bytes.push(16 * high + low)?;
         rest = more;
     }
-    if rest.len() > 0 {
+    if !rest.is_empty() {
         return Ok(None);
     }
     Ok(Some(bytes))

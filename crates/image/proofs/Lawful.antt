@@ -5,16 +5,15 @@ use Rattle.wire.specs.Faults.{image_fault}
 use Rattle.wire.specs.Numbers.{number_at}
 use Rattle.wire.specs.declared.order.ByteOrder.{ByteOrder}
 use Rattle.wire.specs.declared.order.ByteOrder.TheVariants.{Little}
-use Rattle.image.specs.declared.head.Entry.{Entry}
-use Rattle.image.specs.declared.pipe.Header.{Header}
 use Rattle.image.specs.Head as head
-use Rattle.image.specs.Head.{head_entry, head_front, head_marked, head_image}
+use Rattle.image.specs.Head.{Entry, head_entry, head_front, head_marked, head_image}
 use Rattle.image.specs.Laid.{PipeLaid, HeadLaid}
 use Rattle.image.specs.Mark.{mark_order}
 use Rattle.image.specs.Meaning.{Meaning, faulty, sized_from}
 use Rattle.image.specs.Pipe as pipe
-use Rattle.image.specs.Pipe.{header, pipe_front, pipe_marked, pipe_image}
-use Rattle.image.specs.Run.{Front, run_from, walked}
+use Rattle.image.specs.Pipe.{Header, header, pipe_front, pipe_marked, pipe_image}
+use Rattle.image.specs.declared.run.Front.{Front}
+use Rattle.image.specs.Run.{run_from, walked}
 use Rattle.image.proofs.Heads.{entry-sized}
 use Rattle.image.proofs.Laid.{walked-laid}
 use Rattle.image.proofs.Pipes.{header-sized}

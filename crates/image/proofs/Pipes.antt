@@ -1,10 +1,9 @@
 -- The records of a pipe image.
 use Rattle.std.proofs.Common.{◌≡◌, ℕ, ◌≤◌, Bool, true, false, cond, eqb, ltb, List, length, Some, None, ap, arith}
 use Rattle.std.proofs.lemmas.Bool.{ltb-false}
-use Rattle.image.specs.declared.pipe.Header.{Header}
 use Rattle.wire.specs.Numbers.{number_at}
 use Rattle.wire.specs.declared.order.ByteOrder.{ByteOrder}
-use Rattle.image.specs.Pipe.{record_size, header}
+use Rattle.image.specs.Pipe.{Header, record_size, header}
 use Rattle.image.proofs.Runs.{Sized, none_not, unless}
 
 abbrev carrying : ℕ → ℕ → Header

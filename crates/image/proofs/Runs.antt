@@ -1,13 +1,15 @@
 -- A run of entries, read one at a time into an index.
 use Rattle.std.proofs.Common.{◌≡◌, ℕ, zero, suc, ◌+◌, ◌-◌, ◌<◌, ◌≤◌, Bool, true, false, cond, List, [], ◌∷◌, length, take, drop, Some, None, Option, refl, ap, ◌∙◌, arith}
 use Rattle.std.proofs.lemmas.Bool.{lt-ltb, cond-true}
+use Rattle.std.proofs.lemmas.List.{length-drop}
 use Rattle.image.specs.declared.index.Indexed.{Indexed}
 use Rattle.wire.specs.declared.order.ByteOrder.{ByteOrder}
 use Rattle.wire.specs.Faults.{image_fault}
 use Rattle.image.specs.Index.{Put, section_in}
 use Rattle.image.specs.Meaning.{faulty, means}
-use Rattle.image.specs.Run.{Front, Reader, after, done, broken, entry, passed, run, run_from, walked}
-use Rattle.image.proofs.Walks.{Filling, filling_none, filling_put, filling_skip, filling_broken, filling_done, Ends, ends_from, ends_drop, ends_part}
+use Rattle.image.specs.declared.run.Front.{Front}
+use Rattle.image.specs.Run.{Reader, after, done, broken, entry, passed, run, run_from, walked}
+use Rattle.image.proofs.Walks.{Filling, filling_none, filling_put, filling_skip, filling_broken, filling_done}
 
 pub none_not : {X Y : Type 0} (x : X) → None ≡ Some x → Y
 none_not x h = let z : ◌≡◌ {A = ℕ} 0 1 = cc in absurd (omega arith)
@@ -53,13 +55,14 @@ module _ (front : Reader) where
 -- `s` is what is left of an image, and the index has the entries before it
 pub record Running (front : Reader) (from : ℕ) (o : ByteOrder) (image : List ℕ) (low : ℕ) (s : List ℕ) (index : Indexed) : Type 0 where
   pub fill : Filling (run_from front from image) (run front low (length image) s) index
-  pub ends : Ends image s
+  pub within : length s ≤ length image
   pub order : index.order ≡ o
-  pub whole : index.image.now ≡ image
+  pub full : length index.sections ≡ 256
 
-pub running_none : {front : Reader} {from : ℕ} {o : ByteOrder} {image s : List ℕ} {index : Indexed} → from ≤ length image → s ≡ drop from image → index.order ≡ o → index.image.now ≡ image → ((n : ℕ) → section_in index n ≡ None) → Running front from o image 0 s index
-running_none {front} {from} {o} {image} {index} l e q w bare =
-    let r : Running front from o image 0 (drop from image) index = record { fill = filling_none bare; ends = ends_from image from l; order = q; whole = w } in
+pub running_none : {front : Reader} {from : ℕ} {o : ByteOrder} {image s : List ℕ} {index : Indexed} → s ≡ drop from image → index.order ≡ o → length index.sections ≡ 256 → ((n : ℕ) → section_in index n ≡ None) → Running front from o image 0 s index
+running_none {front} {from} {o} {image} {index} e q u bare =
+    let l = length-drop from image in
+    let r : Running front from o image 0 (drop from image) index = record { fill = filling_none bare; within = omega arith; order = q; full = u } in
     rw e r
 
 module _ {front : Reader} {from : ℕ} {o : ByteOrder} {image : List ℕ} {low : ℕ} {s : List ℕ} {was : Indexed} (r : Running front from o image low s was) where
@@ -73,20 +76,13 @@ module _ {front : Reader} {from : ℕ} {o : ByteOrder} {image : List ℕ} {low :
     fill : (m : Option ℕ) → f.feature ≡ m → Filling (run_from front from image) (entry m (take (f.size - f.skip) (drop f.skip s)) (run front (after low m) (length image) t)) was
     fill m k = rw (d, ← k, ← run-entry front low (length image) s f z e) r.fill
 
-    ends : Ends image t
-    ends = rw d (ends_drop image s f.size z.within r.ends)
+    within : length t ≤ length image
+    within = let l = length-drop f.size s in rw d (omega (arith, r.within))
 
     -- an entry with no feature
     pub running_skip : f.feature ≡ None → Running front from o image low t was
-    running_skip k = record { fill = filling_skip (fill None k); ends = ends; order = r.order; whole = r.whole }
+    running_skip k = record { fill = filling_skip (fill None k); within = within; order = r.order; full = r.full }
 
     -- an entry whose section is put in
-    pub running_put : {is : Indexed} {m : ℕ} → f.feature ≡ Some m → Put was is m (take (f.size - f.skip) (drop (length image - length s + f.skip) was.image.now)) → Running front from o image (m + 1) t is
-    running_put {m} k p =
-        let b = ap (λ x. drop (length image - length s + f.skip) x) r.whole ∙ ends_part image s f.skip r.ends in
-        record {
-          fill = filling_put p (ap (λ x. take (f.size - f.skip) x) b) (fill (Some m) k);
-          ends = ends;
-          order = p.order ∙ r.order;
-          whole = p.image ∙ r.whole;
-        }
+    pub running_put : {is : Indexed} {m : ℕ} {b : List ℕ} → f.feature ≡ Some m → b ≡ take (f.size - f.skip) (drop f.skip s) → Put was is m b → Running front from o image (m + 1) t is
+    running_put {m} k b p = record { fill = filling_put p b (fill (Some m) k); within = within; order = p.order ∙ r.order; full = p.full ∙ r.full }

@@ -1,13 +1,13 @@
 -- The table of a file image, a feature at a time.
 use Rattle.std.proofs.Common.{◌≡◌, ℕ, zero, suc, ◌+◌, ◌<◌, ◌≤◌, Bool, true, false, cond, ◌&&◌, ltb, List, length, take, drop, Some, None, sym, refl, ap, ◌∙◌, ⊎_elim, add-one, arith}
 use mathlib.Core.Path.{fun_ext}
-use Rattle.std.proofs.lemmas.Bool.{cond-true, cond-false, cond_both, cases_lt, le-ltb, lt-ltb, ltb-false, eq-eqb, ne_eqb}
+use Rattle.std.proofs.lemmas.List.{length-take, length-drop}
+use Rattle.std.proofs.lemmas.Bool.{cond-true, cond-false, cond_both, cases_lt, le-ltb, lt-ltb, eq-eqb, ne_eqb}
 use Rattle.wire.specs.Faults.{image_fault}
 use Rattle.wire.specs.Numbers.{number_at}
 use Rattle.wire.specs.declared.order.ByteOrder.{ByteOrder}
-use Rattle.image.specs.declared.file.Extent.{Extent}
 use Rattle.image.specs.declared.index.Indexed.{Indexed}
-use Rattle.image.specs.File.{is_set, set_below, entry_at, extent_at, section_start, section_len, is_outside, first_outside, file_section, sections_of}
+use Rattle.image.specs.File.{is_set, set_below, entry_at, section_at, section_start, section_len, is_outside, first_outside, file_section, sections_of}
 use Rattle.image.specs.Index.{Put, section_in, indexed_low}
 use Rattle.image.specs.Meaning.{faulty, means, or_else, unless_at}
 
@@ -73,27 +73,34 @@ module _ (o : ByteOrder) (s : List ℕ) where
   section_past : (n : ℕ) → 255 < n → file_section o s n ≡ None
   section_past n l = cond-true _ _ _ (lt-ltb 255 n l)
 
-is_past : (b : Bool) (x : Extent) → cond b None (Some x) ≡ None → b ≡ true
+is_past : (b : Bool) (x : List ℕ) → cond b None (Some x) ≡ None → b ≡ true
 is_past true x e = refl
 is_past false x e = let z : ◌≡◌ {A = ℕ} 0 1 = cc in absurd (omega arith)
 
-not_past : (b : Bool) (x y : Extent) → cond b None (Some x) ≡ Some y → (b ≡ false) × (y ≡ x)
+not_past : (b : Bool) (x y : List ℕ) → cond b None (Some x) ≡ Some y → (b ≡ false) × (y ≡ x)
 not_past true x y e = let z : ◌≡◌ {A = ℕ} 0 1 = cc in absurd (omega arith)
 not_past false x y e = (refl, cc)
+
+-- a section is no longer than the image
+pub section_few : (o : ByteOrder) (image : List ℕ) (at : ℕ) (b : List ℕ) → section_at o image at ≡ Some b → length b ≤ length image
+section_few o image at b e =
+    let start : ℕ = number_at o 8 image at in
+    let len : ℕ = number_at o 8 image (at + 8) in
+    rw (not_past (ltb (length image) (start + len)) _ b e).1 (omega (arith, length-take len (drop start image), length-drop start image))
 
 -- the index has the sections of the features below `n`, all of which lie within the image, and no other; the next
 -- entry stands at `at`
 pub record Tabling (o : ByteOrder) (image : List ℕ) (n at : ℕ) (index : Indexed) : Type 0 where
   pub order : index.order ≡ o
-  pub whole : index.image.now ≡ image
+  pub full : length index.sections ≡ 256
   pub place : at ≡ entry_at o image n
   pub inside : first_outside o image n ≡ None
   pub has : (m : ℕ) → m < n → m ≤ 255 → section_in index m ≡ file_section o image m
   pub bare : (m : ℕ) → n ≤ m → section_in index m ≡ None
 
-pub tabling_none : {o : ByteOrder} {image : List ℕ} {at : ℕ} {index : Indexed} → at ≡ entry_at o image 0 → index.order ≡ o → index.image.now ≡ image → ((n : ℕ) → section_in index n ≡ None) → Tabling o image 0 at index
-tabling_none {o} {image} p q w bare =
-    record { order = q; whole = w; place = p; inside = outside_none o image; has = λ m l _. absurd (omega arith); bare = λ m _. bare m }
+pub tabling_none : {o : ByteOrder} {image : List ℕ} {at : ℕ} {index : Indexed} → at ≡ entry_at o image 0 → index.order ≡ o → length index.sections ≡ 256 → ((n : ℕ) → section_in index n ≡ None) → Tabling o image 0 at index
+tabling_none {o} {image} p q u bare =
+    record { order = q; full = u; place = p; inside = outside_none o image; has = λ m l _. absurd (omega arith); bare = λ m _. bare m }
 
 module _ {o : ByteOrder} {image : List ℕ} {n at : ℕ} {was : Indexed} (t : Tabling o image n at was) where
   pub tabling_done : n ≡ 256 → means was.order (section_in was) ≡ sections_of o image
@@ -110,7 +117,7 @@ module _ {o : ByteOrder} {image : List ℕ} {n at : ℕ} {was : Indexed} (t : Ta
     pub tabling_unset : is_set o image n ≡ false → Tabling o image (n + 1) at was
     tabling_unset h = record {
       order = t.order;
-      whole = t.whole;
+      full = t.full;
       place = omega (arith, t.place, below_unset o image n h);
       inside = outside_not o image n t.inside (ap (λ b. b && ltb (length image) (section_start o image n + section_len o image n)) h);
       has = λ m a b. ⊎_elim
@@ -131,33 +138,24 @@ module _ {o : ByteOrder} {image : List ℕ} {n at : ℕ} {was : Indexed} (t : Ta
       unfolding past
       outside_is b e = ap (λ x. x && past (entry_at o image n)) h ∙ (ap past (sym t.place) ∙ e)
 
-      pub tabling_broken : extent_at o image at ≡ None → faulty (image_fault 4 at) ≡ sections_of o image
+      pub tabling_broken : section_at o image at ≡ None → faulty (image_fault 4 at) ≡ sections_of o image
       unfolding past
       tabling_broken e =
           let here = outside_here o image n t.inside (outside_is true (is_past (past at) _ e)) in
           let first : first_outside o image 256 ≡ Some at = outside_stays o image (suc n) 256 (entry_at o image n) (omega arith) here ∙ ap Some (sym t.place) in
           sym (ap (λ x. unless_at 4 x (means o (file_section o image))) first)
 
-      -- a section that a table entry gives lies within the image
-      pub tabling_within : (x : Extent) → extent_at o image at ≡ Some x → x.start + x.len ≤ length was.image.now
+      pub tabling_put : {is : Indexed} {b : List ℕ} → section_at o image at ≡ Some b → Put was is n b → Tabling o image (n + 1) (at + 16) is
       unfolding past
-      tabling_within x e =
-          let q = not_past (past at) _ x e in
-          let l = ltb-false (length image) (number_at o 8 image at + number_at o 8 image (at + 8)) q.0 in
-          rw (t.whole, q.1) l
-
-      pub tabling_put : (is : Indexed) (x : Extent) → extent_at o image at ≡ Some x → Put was is n (take x.len (drop x.start was.image.now)) → Tabling o image (n + 1) (at + 16) is
-      unfolding past
-      tabling_put is x e p =
-          let q = not_past (past at) _ x e in
-          let bytes : Some (take x.len (drop x.start was.image.now)) ≡ file_section o image n =
-          ap (λ y. Some (take x.len (drop x.start y))) t.whole
-          ∙ (ap (λ (y : Extent). Some (take y.len (drop y.start image))) q.1
+      tabling_put {b} e p =
+          let q = not_past (past at) _ b e in
+          let bytes : Some b ≡ file_section o image n =
+          ap Some q.1
           ∙ (ap (λ k. Some (take (number_at o 8 image (k + 8)) (drop (number_at o 8 image k) image))) t.place
-          ∙ sym (section_set o image n (omega arith) h))) in
+          ∙ sym (section_set o image n (omega arith) h)) in
           record {
             order = p.order ∙ t.order;
-            whole = p.image ∙ t.whole;
+            full = p.full ∙ t.full;
             place = omega (arith, t.place, below_set o image n h);
             inside = outside_not o image n t.inside (outside_is false q.0);
             has = λ m a b. ⊎_elim
@@ -166,6 +164,6 @@ module _ {o : ByteOrder} {image : List ℕ} {n at : ℕ} {was : Indexed} (t : Ta
                 (cases_lt m n);
             bare = λ m a. ⊎_elim
                 (λ (k : m < 256). p.stands m (omega arith) ∙ (cond-false _ _ _ (ne_eqb n m (λ (z : n ≡ m). omega arith)) ∙ t.bare m (omega arith)))
-                (λ (k : 256 ≤ m). indexed_low _ _ m k)
+                (λ (k : 256 ≤ m). indexed_low _ m k)
                 (cases_lt m 256);
           }

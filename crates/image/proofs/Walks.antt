@@ -1,7 +1,6 @@
 -- An index is filled from the front of a walk: what stands in the end is what the index has, and then the rest.
-use Rattle.std.proofs.Common.{◌≡◌, ℕ, ◌+◌, ◌-◌, ◌≤◌, Bool, true, false, cond, eqb, ltb, List, length, drop, Some, None, Option, sym, refl, ap, ◌∙◌, arith}
+use Rattle.std.proofs.Common.{◌≡◌, ℕ, ◌≤◌, Bool, true, false, cond, eqb, ltb, List, Some, None, Option, sym, refl, ap, ◌∙◌}
 use mathlib.Core.Path.{fun_ext}
-use Rattle.std.proofs.lemmas.List.{length-drop, drop-drop}
 use Rattle.std.proofs.lemmas.Bool.{ltb-true, ltb-false, cond_both}
 use Rattle.image.specs.declared.index.Indexed.{Indexed}
 use Rattle.wire.specs.declared.order.ByteOrder.{ByteOrder}
@@ -53,27 +52,5 @@ pub filling_done : {whole : Walk} {index : Indexed} {order : ByteOrder} (number 
 filling_done {whole} {index} {order} number e f =
     let same : (n : ℕ) → section_in index n ≡ sections_of whole n = λ n.
     cond_both (ltb 255 n) None (last_of n whole) (λ o. section_in index n ≡ o)
-    (λ a. indexed_low _ _ n (ltb-true 255 n a)) (λ a. sym (f.stands n (ltb-false 255 n a))) in
+    (λ a. indexed_low _ n (ltb-true 255 n a)) (λ a. sym (f.stands n (ltb-false 255 n a))) in
     ap (λ o. means o (section_in index)) e ∙ (ap (means order) (fun_ext same) ∙ sym (ap (λ o. unless_at number o (means order (sections_of whole))) f.fault))
-
--- `s` is an end of the image
-pub record Ends (image s : List ℕ) : Type 0 where
-  pub within : length s ≤ length image
-  pub is : drop (length image - length s) image ≡ s
-
-pub ends_from : (image : List ℕ) (k : ℕ) → k ≤ length image → Ends image (drop k image)
-ends_from image k h =
-    let l : length (drop k image) ≡ length image - k = length-drop k image in
-    let e : length image - length (drop k image) ≡ k = omega arith in
-    record { within = omega arith; is = ap (λ i. drop i image) e }
-
-pub ends_drop : (image s : List ℕ) (k : ℕ) → k ≤ length s → Ends image s → Ends image (drop k s)
-ends_drop image s k h e =
-    let w = e.within in
-    let l : length (drop k s) ≡ length s - k = length-drop k s in
-    let n : length image - length (drop k s) ≡ (length image - length s) + k = omega arith in
-    record { within = omega arith; is = ap (λ i. drop i image) n ∙ (sym (drop-drop k (length image - length s) image) ∙ ap (λ x. drop k x) e.is) }
-
--- what follows the front of an end, by its place in the image
-pub ends_part : (image s : List ℕ) (k : ℕ) → Ends image s → drop (length image - length s + k) image ≡ drop k s
-ends_part image s k e = sym (drop-drop k (length image - length s) image) ∙ ap (λ x. drop k x) e.is

@@ -8,7 +8,8 @@ use Rattle.image.specs.Head.{head_front}
 use Rattle.image.specs.Mark.{mark_order}
 use Rattle.image.specs.Meaning.{Meaning, faulty, means, or_else}
 use Rattle.image.specs.Pipe.{pipe_front}
-use Rattle.image.specs.Run.{Front, Reader, after, is_feature}
+use Rattle.image.specs.declared.run.Front.{Front}
+use Rattle.image.specs.Run.{Reader, after, is_feature}
 
 -- The first entry begins at `from`, each other where the one before it ends, and the last ends at `to`.
 -- `low` and `next` are the least features that may come before and after them.

@@ -3,14 +3,19 @@ use Rattle.std.specs.Prelude.{ℕ, cond, List, length, Some, None, Option, ◌==
 use Rattle.wire.specs.Faults.{image_fault}
 use Rattle.wire.specs.Numbers.{number_at}
 use Rattle.wire.specs.declared.order.ByteOrder.{ByteOrder}
-use Rattle.image.specs.declared.pipe.Header.{Header}
 use Rattle.image.specs.Mark.{mark_order}
 use Rattle.image.specs.Meaning.{Meaning, faulty, sized_from}
-use Rattle.image.specs.Run.{Front, Reader, run_from, walked}
+use Rattle.image.specs.declared.run.Front.{Front}
+use Rattle.image.specs.Run.{Reader, run_from, walked}
 
 -- The size of a whole record, the u16 at 6 of it; the u32 at 0 is its type, and the u16 at 4 its misc.
 abbrev pub record_size : ByteOrder → List ℕ → ℕ
 record_size o s = number_at o 2 s 6
+
+-- A record's size, and the feature that it carries, if any.
+pub record Header : Type 0 where
+  pub size : ℕ
+  pub feature : Option ℕ
 
 -- The record that some bytes begin with. None where it has fewer than its own eight bytes, or ends past the bytes.
 -- A record of type 80 carries a feature section, whose number is the u64 at 8; none where it has no room for that.

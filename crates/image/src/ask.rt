@@ -5,6 +5,7 @@ ghost use Rattle.image.specs.Ask.{in_order, answer, answers, asked};
 ghost use Rattle.image.specs.File.{file_image};
 ghost use Rattle.image.specs.Head.{head_image};
 ghost use Rattle.image.specs.Kinds.{any_image};
+ghost use Rattle.image.specs.Meaning.{opened as meaning};
 ghost use Rattle.image.specs.Pipe.{pipe_image};
 
 use crate::file::FileImage;
@@ -25,39 +26,45 @@ pub struct Section<'a> {
 pub fn section_of<'a, S: Store<'a>>(store: &S, number: u32) -> Option<Section<'a>>
     ensures { answer result ≡ in_order (S.endian store.now) ((S.map store.now).at number) }
 {
-    match store.section(number) {
-        None => None,
-        Some(bytes) => Some(Section {
-            order: store.order(),
-            bytes,
-        }),
-    }
+    let bytes = store.section(number)?;
+    Some(Section {
+        order: store.order(),
+        bytes,
+    })
 }
 
+// The section of a feature by a store that was opened, or why it was not.
+fn section_by<'a, S: Store<'a> + Drop>(
+    opened: Result<S, Refusal>,
+    number: u32,
+) -> Result<Option<Section<'a>>, Refusal>
+    ensures { answers result ≡ asked number (meaning S.endian (λ s. (S.map s).at) opened) }
+{
+    let store = opened?;
+    Ok(section_of(&store, number))
+}
+
+// The four below say of each kind, from an image's bytes to a section, what the generic code answers.
 pub fn file_section(image: &[u8], number: u32) -> Result<Option<Section<'_>>, Refusal>
     ensures { answers result ≡ asked number (file_image image.now) }
 {
-    let store = FileImage::open(image)?;
-    Ok(section_of(&store, number))
+    section_by(FileImage::open(image), number)
 }
 
 pub fn pipe_section(image: &[u8], number: u32) -> Result<Option<Section<'_>>, Refusal>
     ensures { answers result ≡ asked number (pipe_image image.now) }
 {
-    let store = PipeImage::open(image)?;
-    Ok(section_of(&store, number))
+    section_by(PipeImage::open(image), number)
 }
 
 pub fn head_section(image: &[u8], number: u32) -> Result<Option<Section<'_>>, Refusal>
     ensures { answers result ≡ asked number (head_image image.now) }
 {
-    let store = HeadImage::open(image)?;
-    Ok(section_of(&store, number))
+    section_by(HeadImage::open(image), number)
 }
 
 pub fn image_section(image: &[u8], number: u32) -> Result<Option<Section<'_>>, Refusal>
     ensures { answers result ≡ asked number (any_image image.now) }
 {
-    let store = Image::open(image)?;
-    Ok(section_of(&store, number))
+    section_by(Image::open(image), number)
 }

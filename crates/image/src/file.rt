@@ -1,18 +1,29 @@
 // The file image: the mark, the u64 104, four words that tell which features there are, and behind the data a table of
 // their sections.
 ghost use Rattle.std.specs.Prelude.{◌≡◌, ◌+◌, ◌*◌, ◌<◌, ◌≤◌, length, nat_le};
-ghost use Rattle.image.specs.File.{is_set, set_below, entry_at, extent_at, sections_of, tabled, file_image};
-ghost use Rattle.image.specs.Index.{features_of, section_in};
+ghost use Rattle.wire.specs.Numbers.{number_at};
+ghost use Rattle.image.specs.File.{is_set, set_below, entry_at, section_at, sections_of, tabled, file_image};
+ghost use Rattle.image.specs.Held.{held};
+ghost use Rattle.image.specs.Index.{section_in};
 ghost use Rattle.image.specs.Meaning.{opened};
 
-use crate::at::u64_at;
-use crate::index::Indexed;
-use crate::mark::mark_order;
-use crate::store::Store;
-use wire::order::ByteOrder;
+use crate::index::{FEATURES, Indexed};
+use crate::mark::marked;
+use crate::opened::{Opened, sized};
+use wire::order::{ByteOrder, tail};
 use wire::refusal::Refusal;
 
-const HEADER_SIZE: u64 = 104;
+// The bytes of the header, which says how many they are.
+const HEADER_SIZE: usize = 104;
+
+// Where the header has the data's offset, its size, and the words that tell which features there are.
+const DATA_AT: usize = 40;
+
+const DATA_SIZE_AT: usize = 48;
+
+const FEATURES_AT: usize = 72;
+
+const ENTRY_SIZE: usize = 16;
 
 // Whether `size` bytes from `start` on end within `len`. The sum does not wrap.
 fn within(start: u64, size: u64, len: usize) -> bool
@@ -22,127 +33,110 @@ fn within(start: u64, size: u64, len: usize) -> bool
     start <= len && size <= len - start
 }
 
-// Whether a feature is set: bit n mod 64 of word n div 64.
-fn is_set(image: &[u8], order: ByteOrder, n: usize) -> bool
-    requires { (104 ≤ length image.now) × (n < 256) }
-    ensures { result ≡ is_set order image.now n }
-{
-    let word = u64_at(order, image, 72 + 8 * (n / 64));
-    (word >> (n % 64)) & 1 == 1
-}
-
-// How many features are set.
-fn count_set(image: &[u8], order: ByteOrder) -> usize
-    requires { 104 ≤ length image.now }
-    ensures is { result ≡ set_below order image.now 256 }
-    ensures few { result ≤ 256 }
-{
-    let mut k: usize = 0;
-    for n in 0..256usize {
-        if is_set(image, order, n) {
-            k += 1;
-        }
-    }
-    k
-}
-
-// Where a section lies in the image.
+// The bytes of a file image that has its whole header, and their order.
 #[derive(Clone, Copy)]
-struct Extent {
-    start: usize,
-    len: usize,
+struct Layout<'a> {
+    image: &'a [u8],
+    order: ByteOrder,
+    ghost whole: { (104 ≤ length image.now) × (length image.now ≤ 16777216) },
 }
 
-// What a table entry says; none where the section ends past the image.
-fn extent_at(image: &[u8], order: ByteOrder, entry: usize) -> Option<Extent>
-    requires { entry + 16 ≤ length image.now }
-    ensures { result ≡ extent_at order image.now entry }
-{
-    let start = u64_at(order, image, entry);
-    let len = u64_at(order, image, entry + 8);
-    if !within(start, len, image.len()) {
-        return None;
+impl<'a> Layout<'a> {
+    fn u64_at(&self, at: usize) -> u64
+        requires { at + 8 ≤ length self.now.image.now }
+        ensures { result ≡ number_at self.now.order 8 self.now.image.now at }
+    {
+        self.order.u64(tail(self.image, at)).unwrap()
     }
-    Some(Extent {
-        start: start as usize,
-        len: len as usize,
-    })
-}
 
-// Reads the table, which the image holds, from its start on.
-fn index(image: &[u8], order: ByteOrder, table: usize) -> Result<Indexed<'_>, Refusal>
-    requires size { (104 ≤ length image.now) × (length image.now ≤ 16777216) }
-    requires table { (table ≡ entry_at order image.now 0) × (entry_at order image.now 256 ≤ length image.now) }
-    ensures { opened (λ s. s.order) section_in result ≡ sections_of order image.now }
-{
-    let mut index = Indexed::empty(image, order);
-    let mut place = table;
-    for n in 0..256usize {
-        if is_set(image, order, n) {
-            let Some(extent) = extent_at(image, order, place) else {
-                return Err(Refusal::SectionOutside { at: place as u32 });
-            };
-            index.put(n as u64, extent.start, extent.len);
-            place += 16;
+    // Whether a feature is set: bit n mod 64 of word n div 64.
+    fn is_set(&self, n: usize) -> bool
+        requires { n < 256 }
+        ensures { result ≡ is_set self.now.order self.now.image.now n }
+    {
+        let word = self.u64_at(FEATURES_AT + 8 * (n / 64));
+        (word >> (n % 64)) & 1 == 1
+    }
+
+    // How many features are set.
+    fn count_set(&self) -> usize
+        ensures is { result ≡ set_below self.now.order self.now.image.now 256 }
+        ensures few { result ≤ 256 }
+    {
+        // Kept: `filter` and `count` would say both clauses of `is_set` again at the closure, and the count's contract speaks of
+        // the filter's steps: from that the number of set features was not proved.
+        let mut k: usize = 0;
+        for n in 0..FEATURES {
+            if self.is_set(n) {
+                k += 1;
+            }
         }
+        k
     }
-    Ok(index)
-}
 
-// Finds the table, and reads it if the image holds it.
-fn read_table(image: &[u8], order: ByteOrder) -> Result<Indexed<'_>, Refusal>
-    requires { (104 ≤ length image.now) × (length image.now ≤ 16777216) }
-    ensures { opened (λ s. s.order) section_in result ≡ tabled order image.now }
-{
-    let data = u64_at(order, image, 40);
-    let size = u64_at(order, image, 48);
-    if !within(data, size, image.len()) {
-        return Err(Refusal::TableOutside);
+    // The section that a table entry gives; none where it ends past the image.
+    fn section_at(&self, entry: usize) -> Option<&'a [u8]>
+        requires { entry + 16 ≤ length self.now.image.now }
+        ensures { held result ≡ section_at self.now.order self.now.image.now entry }
+    {
+        let start = self.u64_at(entry);
+        let len = self.u64_at(entry + 8);
+        if !within(start, len, self.image.len()) {
+            return None;
+        }
+        let start = start as usize;
+        Some(&self.image[start..start + len as usize])
     }
-    let table = data as usize + size as usize;
-    if table + 16 * count_set(image, order) > image.len() {
-        return Err(Refusal::TableOutside);
+
+    // Reads the table, which the image holds, from its start on.
+    fn index(&self, table: usize) -> Result<Indexed<'a>, Refusal>
+        requires { (table ≡ entry_at self.now.order self.now.image.now 0) × (entry_at self.now.order self.now.image.now 256 ≤ length self.now.image.now) }
+        ensures { opened (λ s. s.order) section_in result ≡ sections_of self.now.order self.now.image.now }
+    {
+        let mut index = Indexed::empty(self.order);
+        let mut place = table;
+        for n in 0..FEATURES {
+            if self.is_set(n) {
+                let Some(section) = self.section_at(place) else {
+                    return Err(Refusal::SectionOutside { at: place as u32 });
+                };
+                index.put(n as u64, section);
+                place += ENTRY_SIZE;
+            }
+        }
+        Ok(index)
     }
-    index(image, order, table)
+
+    // Finds the table, and reads it if the image holds it.
+    fn read_table(&self) -> Result<Indexed<'a>, Refusal>
+        ensures { opened (λ s. s.order) section_in result ≡ tabled self.now.order self.now.image.now }
+    {
+        let data = self.u64_at(DATA_AT);
+        let size = self.u64_at(DATA_SIZE_AT);
+        if !within(data, size, self.image.len()) {
+            return Err(Refusal::TableOutside);
+        }
+        let table = data as usize + size as usize;
+        if table + ENTRY_SIZE * self.count_set() > self.image.len() {
+            return Err(Refusal::TableOutside);
+        }
+        self.index(table)
+    }
 }
 
 // A file image, every entry of whose table has been looked at.
 #[derive(Clone, Copy)]
-pub struct FileImage<'a> {
-    index: Indexed<'a>,
-}
+pub struct File;
 
-impl<'a> FileImage<'a> {
+pub type FileImage<'a> = Opened<'a, File>;
+
+impl<'a> Opened<'a, File> {
     pub fn open(image: &'a [u8]) -> Result<FileImage<'a>, Refusal>
         ensures { opened (λ s. s.index.order) (λ s. section_in s.index) result ≡ file_image image.now }
     {
-        if image.len() > 16_777_216 {
-            return Err(Refusal::ImageTooLong);
-        }
-        if image.len() < 104 {
-            return Err(Refusal::ImageTooShort);
-        }
-        let Some(order) = mark_order(image) else {
-            return Err(Refusal::WrongMark);
-        };
-        if u64_at(order, image, 8) != HEADER_SIZE {
-            return Err(Refusal::WrongMark);
-        }
-        let index = read_table(image, order)?;
-        Ok(FileImage { index })
-    }
-}
-
-impl<'a> Store<'a> for FileImage<'a> {
-    ghost endian = { λ s. s.index.order };
-
-    ghost map = { λ s. features_of s.index };
-
-    fn order(&self) -> ByteOrder {
-        self.index.order()
-    }
-
-    fn section(&self, number: u32) -> Option<&'a [u8]> {
-        self.index.section(number)
+        sized(image, HEADER_SIZE)?;
+        let order = marked(image, HEADER_SIZE as u64).ok_or(Refusal::WrongMark)?;
+        let index = Layout { image, order }.read_table()?;
+        Ok(Opened::new(index))
     }
 }

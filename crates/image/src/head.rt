@@ -1,73 +1,29 @@
 // The head image: `PRH`, the u16 version 1, and then entries of a u16 number, a u32 length and that many bytes.
 // It is little-endian. Its numbers rise, and each is one that a head carries.
-ghost use Rattle.std.specs.Prelude.{◌≡◌, ◌≤◌, length};
-ghost use Rattle.wire.specs.declared.order.ByteOrder.TheVariants.{Little as LittleEnd};
-ghost use Rattle.image.specs.Head.{is_carried, head_entry, head_front, head_marked, head_image};
+ghost use Rattle.std.specs.Prelude.{◌≡◌, ◌<◌, ◌≤◌, length, IfSome};
+ghost use Rattle.image.specs.Head.{is_carried, head_front, head_marked, head_image};
 ghost use Rattle.image.specs.Laid.{HeadLaid};
-ghost use Rattle.image.specs.Index.{features_of, section_in};
-ghost use Rattle.image.specs.Run.{run_from, walked};
+ghost use Rattle.image.specs.Index.{section_in};
 ghost use Rattle.image.specs.Meaning.{opened};
 
-use crate::at::{u16_at, u32_at};
-use crate::index::Indexed;
-use crate::store::Store;
-use wire::order::ByteOrder;
+use crate::opened::{Opened, sized};
+use crate::run::{Entries, Front, index};
+use wire::order::{ByteOrder, tail};
 use wire::refusal::Refusal;
+
+// The bytes of the mark and the version.
+const HEADER_SIZE: usize = 5;
+
+const VERSION: u16 = 1;
+
+// The bytes of an entry before its section.
+const SECTION_AT: usize = 6;
 
 // The features that a head carries.
 fn is_carried(n: u16) -> bool
     ensures { result ≡ is_carried n }
 {
-    (2 <= n && n <= 11) || n == 16 || n == 19 || n == 23 || n == 128 || n == 129
-}
-
-// An entry's number, and its size with its own six bytes.
-#[derive(Clone, Copy)]
-struct Entry {
-    number: u16,
-    size: usize,
-}
-
-// The entry that some bytes begin with; none where it ends past them, is below `low` or not carried.
-fn entry_of(low: u32, s: &[u8]) -> Option<Entry>
-    ensures { result ≡ head_entry low s.now }
-{
-    if s.len() < 6 {
-        return None;
-    }
-    let number = u16_at(ByteOrder::Little, s, 0);
-    let size = 6 + u32_at(ByteOrder::Little, s, 2) as usize;
-    if size > s.len() {
-        return None;
-    }
-    if (number as u32) < low {
-        return None;
-    }
-    if !is_carried(number) {
-        return None;
-    }
-    Some(Entry { number, size })
-}
-
-// Reads the entries of an image, front to back.
-fn index(image: &[u8]) -> Result<Indexed<'_>, Refusal>
-    requires { (5 ≤ length image.now) × (length image.now ≤ 16777216) }
-    ensures { opened (λ s. s.order) section_in result ≡ walked 17 LittleEnd (run_from head_front 5 image.now) }
-{
-    let mut index = Indexed::empty(image, ByteOrder::Little);
-    let mut low: u32 = 0;
-    let mut rest = &image[5..];
-    while rest.len() > 0 {
-        let start = image.len() - rest.len();
-        let Some(e) = entry_of(low, rest) else {
-            return Err(Refusal::BadEntry { at: start as u32 });
-        };
-        let size = e.size;
-        index.put(e.number as u64, start + 6, size - 6);
-        low = e.number as u32 + 1;
-        rest = &rest[size..];
-    }
-    Ok(index)
+    matches!(n, 2..=11 | 16 | 19 | 23 | 128 | 129)
 }
 
 pub fn is_head(image: &[u8]) -> bool
@@ -78,11 +34,43 @@ pub fn is_head(image: &[u8]) -> bool
 
 // A head image, every entry of which has been looked at.
 #[derive(Clone, Copy)]
-pub struct HeadImage<'a> {
-    index: Indexed<'a>,
+pub struct Head;
+
+pub type HeadImage<'a> = Opened<'a, Head>;
+
+impl Entries for Head {
+    ghost front = { λ _. head_front };
+
+    ghost number = { 17 };
+
+    fn front(&self, before: Option<u64>, s: &[u8]) -> Option<Front> {
+        let number = ByteOrder::Little.u16(s)?;
+        let size = SECTION_AT + ByteOrder::Little.u32(tail(s, 2))? as usize;
+        if size > s.len() {
+            return None;
+        }
+        let feature = number as u64;
+        if let Some(last) = before
+            && feature <= last
+        {
+            return None;
+        }
+        if !is_carried(number) {
+            return None;
+        }
+        Some(Front {
+            feature: Some(feature),
+            skip: SECTION_AT,
+            size,
+        })
+    }
+
+    fn refusal(at: u32) -> Refusal {
+        Refusal::BadEntry { at }
+    }
 }
 
-impl<'a> HeadImage<'a> {
+impl<'a> Opened<'a, Head> {
     pub fn open(image: &'a [u8]) -> Result<HeadImage<'a>, Refusal>
         ensures means { opened (λ s. s.index.order) (λ s. section_in s.index) result ≡ head_image image.now }
         ensures laid { HeadLaid image.now (opened (λ s. s.index.order) (λ s. section_in s.index) result) }
@@ -93,33 +81,11 @@ impl<'a> HeadImage<'a> {
     fn read(image: &'a [u8]) -> Result<HeadImage<'a>, Refusal>
         ensures { opened (λ s. s.index.order) (λ s. section_in s.index) result ≡ head_image image.now }
     {
-        if image.len() > 16_777_216 {
-            return Err(Refusal::ImageTooLong);
-        }
-        if image.len() < 5 {
-            return Err(Refusal::ImageTooShort);
-        }
-        if !is_head(image) {
+        sized(image, HEADER_SIZE)?;
+        if !is_head(image) || ByteOrder::Little.u16(tail(image, 3)) != Some(VERSION) {
             return Err(Refusal::WrongMark);
         }
-        if u16_at(ByteOrder::Little, image, 3) != 1 {
-            return Err(Refusal::WrongMark);
-        }
-        let index = index(image)?;
-        Ok(HeadImage { index })
-    }
-}
-
-impl<'a> Store<'a> for HeadImage<'a> {
-    ghost endian = { λ s. s.index.order };
-
-    ghost map = { λ s. features_of s.index };
-
-    fn order(&self) -> ByteOrder {
-        self.index.order()
-    }
-
-    fn section(&self, number: u32) -> Option<&'a [u8]> {
-        self.index.section(number)
+        let index = index(&Head, ByteOrder::Little, image, HEADER_SIZE)?;
+        Ok(Opened::new(index))
     }
 }

@@ -1,66 +1,43 @@
-// An index of an image: for each feature number below 256 the place of its section, if it has one.
-ghost use Rattle.std.specs.Prelude.{◌≡◌, ℕ, ◌+◌, ◌≤◌, length, take, drop, None as none};
-ghost use Rattle.image.specs.Held.{held};
-ghost use Rattle.image.specs.Index.{part as part_of, features_of, section_in, Put};
+// An index of an image: for each feature number below 256 the bytes of its section, if it has one.
+ghost use Rattle.std.specs.Prelude.{◌≡◌, ℕ, ◌≤◌, length, None as none};
+ghost use Rattle.image.specs.Index.{features_of, section_in, Put};
 
 use crate::store::Store;
 use wire::order::ByteOrder;
 
-#[derive(Clone, Copy)]
-pub struct Span {
-    start: u32,
-    len: u32,
-}
+// The most bytes that an image has, and so a section.
+pub(crate) const MOST: usize = 16_777_216;
+
+// How many features there are.
+pub(crate) const FEATURES: usize = 256;
 
 #[derive(Clone, Copy)]
 pub struct Indexed<'a> {
-    image: &'a [u8],
     order: ByteOrder,
-    spans: [Option<Span>; 256],
-}
-
-// `len` bytes from `start` on, where the image has them all and they are not too many.
-fn part(image: &[u8], start: u32, len: u32) -> Option<&[u8]>
-    ensures { held result ≡ part_of image.now start len }
-{
-    let from = start as usize;
-    let to = from + len as usize;
-    if len > 16_777_216 {
-        return None;
-    }
-    if to > image.len() {
-        return None;
-    }
-    Some(&image[from..to])
+    sections: [Option<&'a [u8]>; FEATURES],
 }
 
 impl<'a> Indexed<'a> {
     // An index with no section.
-    pub(crate) fn empty(image: &'a [u8], order: ByteOrder) -> Indexed<'a>
-        ensures image { result.image.now ≡ image.now }
+    pub(crate) fn empty(order: ByteOrder) -> Indexed<'a>
         ensures order { result.order ≡ order }
+        ensures full { length result.sections ≡ 256 }
         ensures bare { (n : ℕ) → section_in result n ≡ none }
     {
         Indexed {
-            image,
             order,
-            spans: [None; 256],
+            sections: [None; FEATURES],
         }
     }
 
-    // Has a feature stand at a place of the image, whatever stood for it before. A number above 255 is passed over.
-    pub(crate) fn put(&mut self, number: u64, start: usize, len: usize)
-        requires { (start + len ≤ length self.old.image.now) × (length self.old.image.now ≤ 16777216) }
-        ensures { Put self.old self.new number (take len (drop start self.old.image.now)) }
+    // Has some bytes stand for a feature, whatever stood for it before. A number above 255 is passed over.
+    pub(crate) fn put(&mut self, number: u64, bytes: &'a [u8])
+        requires { (length self.old.sections ≡ 256) × (length bytes.now ≤ 16777216) }
+        ensures { Put self.old self.new number bytes.now }
     {
-        if number > 255 {
-            return;
+        if number < FEATURES as u64 {
+            self.sections[number as usize] = Some(bytes);
         }
-        let span = Span {
-            start: start as u32,
-            len: len as u32,
-        };
-        self.spans[number as usize] = Some(span);
     }
 }
 
@@ -74,12 +51,7 @@ impl<'a> Store<'a> for Indexed<'a> {
     }
 
     fn section(&self, number: u32) -> Option<&'a [u8]> {
-        if number > 255 {
-            return None;
-        }
-        match self.spans[number as usize] {
-            None => None,
-            Some(span) => part(self.image, span.start, span.len),
-        }
+        let bytes = (*self.sections.get(number as usize)?)?;
+        (bytes.len() <= MOST).then_some(bytes)
     }
 }

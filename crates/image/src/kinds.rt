@@ -4,11 +4,12 @@ ghost use Rattle.image.specs.Index.{features_of, section_in};
 ghost use Rattle.image.specs.Kinds.{index_of, kind_of, is_pipe, any_image, IsOfKind};
 ghost use Rattle.image.specs.Meaning.{opened};
 
-use crate::at::u64_at;
 use crate::file::FileImage;
 use crate::head::{HeadImage, is_head};
-use crate::mark::mark_order;
-use crate::pipe::PipeImage;
+use crate::index::Indexed;
+use crate::mark::marked;
+use crate::opened::Opened;
+use crate::pipe::{HEADER_SIZE, PipeImage};
 use crate::store::Store;
 use wire::order::ByteOrder;
 use wire::refusal::Refusal;
@@ -20,24 +21,18 @@ pub enum Kind {
     Head,
 }
 
+// An image that has been opened, and of which kind it is.
 #[derive(Clone, Copy)]
-pub enum Image<'a> {
-    File(FileImage<'a>),
-    Pipe(PipeImage<'a>),
-    Head(HeadImage<'a>),
+pub struct Image<'a> {
+    kind: Kind,
+    index: Indexed<'a>,
 }
 
 // A mark and then the u64 16.
 fn is_pipe(image: &[u8]) -> bool
     ensures { result ≡ is_pipe image.now }
 {
-    if image.len() < 16 {
-        return false;
-    }
-    match mark_order(image) {
-        Some(order) => u64_at(order, image, 8) == 16,
-        None => false,
-    }
+    image.len() >= HEADER_SIZE && marked(image, HEADER_SIZE as u64).is_some()
 }
 
 impl<'a> Image<'a> {
@@ -46,22 +41,28 @@ impl<'a> Image<'a> {
         ensures kind { IsOfKind image.now result }
     {
         if is_head(image) {
-            return Ok(Image::Head(HeadImage::open(image)?));
+            return Ok(Image::of(Kind::Head, HeadImage::open(image)?));
         }
         if is_pipe(image) {
-            return Ok(Image::Pipe(PipeImage::open(image)?));
+            return Ok(Image::of(Kind::Pipe, PipeImage::open(image)?));
         }
-        Ok(Image::File(FileImage::open(image)?))
+        Ok(Image::of(Kind::File, FileImage::open(image)?))
+    }
+
+    fn of<K>(kind: Kind, opened: Opened<'a, K>) -> Image<'a>
+        ensures kind { result.kind ≡ «kind» }
+        ensures index { result.index ≡ opened.entry.index }
+    {
+        Image {
+            kind,
+            index: opened.into_index(),
+        }
     }
 
     pub fn kind(&self) -> Kind
         ensures { result ≡ kind_of self.now }
     {
-        match self {
-            Image::File(_) => Kind::File,
-            Image::Pipe(_) => Kind::Pipe,
-            Image::Head(_) => Kind::Head,
-        }
+        self.kind
     }
 }
 
@@ -71,18 +72,10 @@ impl<'a> Store<'a> for Image<'a> {
     ghost map = { λ s. features_of (index_of s) };
 
     fn order(&self) -> ByteOrder {
-        match self {
-            Image::File(i) => i.order(),
-            Image::Pipe(i) => i.order(),
-            Image::Head(i) => i.order(),
-        }
+        self.index.order()
     }
 
     fn section(&self, number: u32) -> Option<&'a [u8]> {
-        match self {
-            Image::File(i) => i.section(number),
-            Image::Pipe(i) => i.section(number),
-            Image::Head(i) => i.section(number),
-        }
+        self.index.section(number)
     }
 }

@@ -2,11 +2,12 @@
 #![tactic(auto)]
 
 pub mod ask;
-mod at;
 pub mod file;
 pub mod head;
 pub mod index;
 pub mod kinds;
 pub mod mark;
+pub mod opened;
 pub mod pipe;
+mod run;
 pub mod store;

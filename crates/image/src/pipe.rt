@@ -1,83 +1,85 @@
 // The pipe image: the mark, the u64 16, and then records of a u32 type, a u16 misc and a u16 size of the whole record.
 // A record of type 80 carries a section: a u64 feature number, and the bytes after it. The last record for a number stands.
-ghost use Rattle.std.specs.Prelude.{◌≡◌, ◌≤◌, length};
+ghost use Rattle.std.specs.Prelude.{◌≡◌, ◌<◌, ◌≤◌, length, IfSome, Some};
+ghost use Rattle.wire.specs.Numbers.{number_at};
 ghost use Rattle.image.specs.Laid.{PipeLaid};
-ghost use Rattle.image.specs.Index.{features_of, section_in};
-ghost use Rattle.image.specs.Pipe.{header as header_of, pipe_front, pipe_image};
-ghost use Rattle.image.specs.Run.{run_from, walked};
+ghost use Rattle.image.specs.Index.{section_in};
+ghost use Rattle.image.specs.Pipe.{pipe_front, pipe_image};
 ghost use Rattle.image.specs.Meaning.{opened};
 
-use crate::at::{u16_at, u32_at, u64_at};
-use crate::index::Indexed;
-use crate::mark::mark_order;
-use crate::store::Store;
-use wire::order::ByteOrder;
+use crate::mark::marked;
+use crate::opened::{Opened, sized};
+use crate::run::{Entries, Front, index};
+use wire::order::{ByteOrder, tail};
 use wire::refusal::Refusal;
 
-// A record's size, and the feature that it carries, if any.
+// The bytes of the mark and of the u64 after it, which says how many they are.
+pub(crate) const HEADER_SIZE: usize = 16;
+
+// The bytes that every record begins with, and those before the section of one that carries a section.
+const RECORD_SIZE: usize = 8;
+
+const SECTION_AT: usize = 16;
+
+// The type of a record that carries a section.
+const FEATURE_RECORD: u32 = 80;
+
+// The records of a pipe image.
 #[derive(Clone, Copy)]
-struct Header {
-    size: usize,
-    feature: Option<u64>,
+struct Records {
+    order: ByteOrder,
 }
 
-// The record that some bytes begin with; none where it is too small or ends past them.
-fn header_of(order: ByteOrder, s: &[u8]) -> Option<Header>
-    ensures { result ≡ header_of order s.now }
-{
-    if s.len() < 8 {
-        return None;
+impl Records {
+    // The number of the feature whose section a record carries.
+    fn feature(&self, s: &[u8]) -> Option<u64>
+        requires { 16 ≤ length s.now }
+        ensures { result ≡ Some (number_at self.now.order 8 s.now 8) }
+    {
+        self.order.u64(tail(s, 8))
     }
-    let size = u16_at(order, s, 6) as usize;
-    if size < 8 {
-        return None;
-    }
-    if size > s.len() {
-        return None;
-    }
-    if u32_at(order, s, 0) != 80 {
-        return Some(Header {
-            size,
-            feature: None,
-        });
-    }
-    if size < 16 {
-        return None;
-    }
-    Some(Header {
-        size,
-        feature: Some(u64_at(order, s, 8)),
-    })
 }
 
-// Reads the records of an image, front to back.
-fn index(image: &[u8], order: ByteOrder) -> Result<Indexed<'_>, Refusal>
-    requires { (16 ≤ length image.now) × (length image.now ≤ 16777216) }
-    ensures { opened (λ s. s.order) section_in result ≡ walked 5 order (run_from (pipe_front order) 16 image.now) }
-{
-    let mut index = Indexed::empty(image, order);
-    let mut rest = &image[16..];
-    while rest.len() > 0 {
-        let start = image.len() - rest.len();
-        let Some(h) = header_of(order, rest) else {
-            return Err(Refusal::BadRecord { at: start as u32 });
-        };
-        if let Some(number) = h.feature {
-            index.put(number, start + 16, h.size - 16);
+impl Entries for Records {
+    ghost front = { λ r. pipe_front r.order };
+
+    ghost number = { 5 };
+
+    fn front(&self, before: Option<u64>, s: &[u8]) -> Option<Front> {
+        let kind = self.order.u32(s)?;
+        let size = self.order.u16(tail(s, 6))? as usize;
+        if size < RECORD_SIZE || size > s.len() {
+            return None;
         }
-        let size = h.size;
-        rest = &rest[size..];
+        if kind != FEATURE_RECORD {
+            return Some(Front {
+                feature: None,
+                skip: SECTION_AT,
+                size,
+            });
+        }
+        if size < SECTION_AT {
+            return None;
+        }
+        Some(Front {
+            feature: self.feature(s),
+            skip: SECTION_AT,
+            size,
+        })
     }
-    Ok(index)
+
+    fn refusal(at: u32) -> Refusal {
+        Refusal::BadRecord { at }
+    }
 }
 
 // A pipe image, every record of which has been looked at.
 #[derive(Clone, Copy)]
-pub struct PipeImage<'a> {
-    index: Indexed<'a>,
-}
+pub struct Pipe;
 
-impl<'a> PipeImage<'a> {
+pub type PipeImage<'a> = Opened<'a, Pipe>;
+
+impl<'a> Opened<'a, Pipe> {
     pub fn open(image: &'a [u8]) -> Result<PipeImage<'a>, Refusal>
         ensures means { opened (λ s. s.index.order) (λ s. section_in s.index) result ≡ pipe_image image.now }
         ensures laid { PipeLaid image.now (opened (λ s. s.index.order) (λ s. section_in s.index) result) }
@@ -88,33 +90,9 @@ impl<'a> PipeImage<'a> {
     fn read(image: &'a [u8]) -> Result<PipeImage<'a>, Refusal>
         ensures { opened (λ s. s.index.order) (λ s. section_in s.index) result ≡ pipe_image image.now }
     {
-        if image.len() > 16_777_216 {
-            return Err(Refusal::ImageTooLong);
-        }
-        if image.len() < 16 {
-            return Err(Refusal::ImageTooShort);
-        }
-        let Some(order) = mark_order(image) else {
-            return Err(Refusal::WrongMark);
-        };
-        if u64_at(order, image, 8) != 16 {
-            return Err(Refusal::WrongMark);
-        }
-        let index = index(image, order)?;
-        Ok(PipeImage { index })
-    }
-}
-
-impl<'a> Store<'a> for PipeImage<'a> {
-    ghost endian = { λ s. s.index.order };
-
-    ghost map = { λ s. features_of s.index };
-
-    fn order(&self) -> ByteOrder {
-        self.index.order()
-    }
-
-    fn section(&self, number: u32) -> Option<&'a [u8]> {
-        self.index.section(number)
+        sized(image, HEADER_SIZE)?;
+        let order = marked(image, HEADER_SIZE as u64).ok_or(Refusal::WrongMark)?;
+        let index = index(&Records { order }, order, image, HEADER_SIZE)?;
+        Ok(Opened::new(index))
     }
 }

@@ -11,25 +11,11 @@ use image::kinds::Image;
 use image::pipe::PipeImage;
 use image::store::Store;
 use std::io::{BufRead, BufReader};
-use wire::order::ByteOrder;
 use wire::refusal::Refusal;
-
-fn print_refusal(rt: &HostRuntime, refusal: Refusal) -> anyhow::Result<()> {
-    let fault = refusal.fault();
-    let number = fault.number;
-    let layer = fault.layer as u32;
-    let feature = fault.feature;
-    let offset = fault.offset;
-    println!(rt; "refused {number} {layer} {feature} {offset}")?;
-    Ok(())
-}
 
 // Numbers above 255 are asked for too, and have to be absent.
 fn print_store<'a, S: Store<'a>>(rt: &HostRuntime, store: &S) -> anyhow::Result<()> {
-    let order = match store.order() {
-        ByteOrder::Little => "little",
-        ByteOrder::Big => "big",
-    };
+    let order = store.order();
     print!(rt; "{order}")?;
     for number in 0..600u32 {
         if let Some(section) = section_of(store, number) {
@@ -47,7 +33,7 @@ fn print_opened<'a, S: Store<'a> + Drop>(
 ) -> anyhow::Result<()> {
     match opened {
         Ok(store) => print_store(rt, &store),
-        Err(refusal) => print_refusal(rt, refusal),
+        Err(refusal) => Ok(println!(rt; "{refusal}")?),
     }
 }
 

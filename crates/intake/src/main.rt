@@ -4,12 +4,12 @@
 use desk::answer::{answer, open};
 use desk::desk::{Desk, USUAL};
 use desk::lines::Lines;
-use desk::request::Request;
+use desk::request::{BadLine, Request};
 use std::io;
 
 // The first line may open the shelf. Where it does not, the shelf is opened as usual, and the line is answered like any other.
-fn first(rt: &HostRuntime, request: Option<Request<'_>>) -> anyhow::Result<(Desk, bool)> {
-    if let Some(Request::Open(opening)) = request {
+fn first(rt: &HostRuntime, request: Result<Request<'_>, BadLine>) -> anyhow::Result<(Desk, bool)> {
+    if let Ok(Request::Open(opening)) = request {
         return Ok((open(rt, opening)?, true));
     }
     let (mut desk, _) = Desk::open(rt.alloc(), USUAL)?;

@@ -8,9 +8,9 @@ use Rattle.text.specs.Pieces.{well_formed}
 use Rattle.table.specs.Order.{texts}
 use Rattle.table.specs.Rows.{part, key_part, entry_of}
 use Rattle.table.specs.declared.row.Row.{Row}
-use Rattle.mappings.specs.Tables.{before, table_by}
+use Rattle.mappings.specs.Tables.{before, table_by, with_value}
 use Rattle.mappings.specs.MetaInfo.{Piece, longer, pieces, paired, pair_row, meta_rows, meta_table}
-use Rattle.mappings.proofs.Tied.{with_value, table_tied}
+use Rattle.mappings.proofs.Tied.{table_tied}
 
 module _ (s : List ℕ) where
   -- Each of some pieces stands in the section where it says, and the first begins at an offset.

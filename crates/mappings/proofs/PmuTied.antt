@@ -10,11 +10,11 @@ use Rattle.text.specs.declared.strings.TextFault.TheVariants.{ShortLength, PastE
 use Rattle.table.specs.Order.{numbers}
 use Rattle.table.specs.Rows.{part, entry_of}
 use Rattle.table.specs.declared.row.Row.{Row}
-use Rattle.mappings.specs.Tables.{table_by}
+use Rattle.mappings.specs.Tables.{table_by, with_value}
 use Rattle.mappings.specs.PmuMappings.{past_text, ItemRead, named, numbered, item_at, given_before, and_more, items_in, counted_items, items, name_row, key_of, pmu_rows, pmu_names}
 use Rattle.mappings.proofs.Joins.{err_not}
 use Rattle.mappings.proofs.Places.{Lies, header_text_lies, last-bytes}
-use Rattle.mappings.proofs.Tied.{with_value, table_tied}
+use Rattle.mappings.proofs.Tied.{table_tied}
 
 abbrev pair_of : ℕ → ℕ → List ℕ → ℕ × List ℕ
 pair_of key at name = (key, name)

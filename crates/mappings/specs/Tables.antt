@@ -7,8 +7,7 @@ use Rattle.wire.specs.declared.refusal.Refusal.{Refusal}
 use Rattle.table.specs.Order.{Order}
 use Rattle.table.specs.Rows.{blanks, entry_of}
 use Rattle.table.specs.Table.{tabled}
-use Rattle.table.specs.Fills.{laid, Holds}
-use Rattle.table.specs.declared.fill.Fill.{Fill}
+use Rattle.table.specs.Fills.{fits, laid}
 use Rattle.table.specs.declared.row.Row.{Row}
 
 -- One more in front of what is read, unless that is a fault.
@@ -50,6 +49,11 @@ entries_in key section rows n = map (entry_of key section) (take n rows)
 abbrev pub bytes_in : Option (List ℕ) → List ℕ
 bytes_in section = unwrap_or section []
 
+-- Another value of what is read.
+abbrev pub with_value : {X Y : Type 0} → (X → Y) → Result X Fault → Result Y Fault
+with_value g (Ok x) = Ok (g x)
+with_value g (Err f) = Err f
+
 -- What the code answers.
 abbrev pub outcome : {X V : Type 0} → (X → V) → Result X Refusal → Result V Fault
 outcome value (Ok x) = Ok (value x)
@@ -57,13 +61,8 @@ outcome value (Err e) = Err (fault_of e)
 
 -- A reading has come to the end of its section, and its rows hold the table as far as it fits; or it has stopped at the
 -- section's fault.
-abbrev pub Made : Result (List Row) Fault → Result Fill Refusal → List Row → Type 0
-Made (Ok t) (Ok fill) rows = Holds t fill rows
+abbrev pub Made : Result (List Row) Fault → Result (Option ℕ) Refusal → List Row → Type 0
+Made (Ok t) (Ok used) rows = (used ≡ fits (length rows) t) × (rows ≡ laid (length rows) t)
 Made (Ok t) (Err e) rows = ⊥
-Made (Err f) (Ok fill) rows = ⊥
+Made (Err f) (Ok used) rows = ⊥
 Made (Err f) (Err e) rows = fault_of e ≡ f
-
--- The answer and the rows, once a reading has been brought to its end.
-pub record Settled (feature : ℕ) (table : Result (List Row) Fault) (n : ℕ) (r : Result ℕ Refusal) (rows : List Row) : Type 0 where
-  pub answer : outcome (λ k. k) r ≡ counted (within feature n table)
-  pub rows_after : rows ≡ laid_out n table

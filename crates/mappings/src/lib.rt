@@ -2,6 +2,6 @@
 #![tactic(auto)]
 
 pub mod laws;
+mod mapping;
 pub mod meta_info;
 pub mod pmu_mappings;
-mod settle;

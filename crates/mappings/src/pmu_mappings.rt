@@ -1,26 +1,21 @@
-// PMU_MAPPINGS, feature 16: the kernel's numbers of performance monitoring units, with their names.
-ghost use Rattle.std.specs.Prelude.{◌≡◌, ◌+◌, ◌≤◌, List, ◌++◌, length};
+// PmuMappings::FEATURE, feature 16: the kernel's numbers of performance monitoring units, with their names.
+ghost use Rattle.std.specs.Prelude.{◌≡◌, ◌+◌, ◌≤◌, ℕ, length};
 ghost use Rattle.wire.specs.Faults.{fault_of};
 ghost use Rattle.mappings.specs.PmuMappings.{cut, item_at, item_read, name_row, past_text, key_of, pmu_rows, pmu_names};
-ghost use Rattle.mappings.specs.Tables.{Made, counted, within, laid_out, laid_for, outcome, entries_in, bytes_in};
+ghost use Rattle.mappings.specs.Tables.{counted, within, laid_for, entries_in, bytes_in};
 ghost use Rattle.perf_data.specs.Questions.{question, answered, mapped};
-ghost use Rattle.std.specs.Option.{option_to_list};
-ghost use Rattle.table.specs.Fills.{Filled};
-ghost use Rattle.table.specs.Order.{numbers};
 ghost use Rattle.table.specs.Rows.{entry_of};
-ghost use Rattle.table.specs.declared.row.Row.{Row as Rows};
 ghost use Rattle.mappings.specs.Entries.{of_pmu};
 
-use crate::settle::settle;
+use crate::mapping::{Mapping, table_of};
 use image::store::Store;
+use perf_data::features::Feature;
 use table::fill::Fill;
 use table::kind::Numbers;
-use table::row::{Row, blank_all};
+use table::row::Row;
 use text::strings::{TextFault, read_string};
 use wire::order::{ByteOrder, tail};
 use wire::refusal::Refusal;
-
-const PMU_MAPPINGS: u32 = 16;
 
 // What an item gives, and what follows it: the row of its name, unless that is ill formed.
 #[derive(Clone, Copy)]
@@ -42,7 +37,7 @@ fn cut_short(at: usize) -> Refusal
     ensures { fault_of result ≡ cut «at» }
 {
     Refusal::CutShort {
-        feature: PMU_MAPPINGS,
+        feature: PmuMappings::FEATURE,
         at: at as u32,
     }
 }
@@ -87,43 +82,36 @@ fn read_item(order: ByteOrder, at: usize, s: &[u8]) -> Result<Item<'_>, Refusal>
     }
 }
 
-// Puts what an item gives into the table, if it gives something.
-fn put(fill: Fill, rows: &mut [Row], given: Option<Row>) -> Fill
-    ensures { (before : List Rows) → Filled numbers key_of before fill rows.old → Filled numbers key_of (before ++ option_to_list given) result rows.new }
-{
-    match given {
-        Some(row) => fill.add(&Numbers, rows, row),
-        None => fill,
-    }
-}
+pub(crate) struct PmuMappings;
 
-// Reads the items of a section into rows, to its end even when the rows have run out: a fault further on comes first.
-fn read_items(order: ByteOrder, section: &[u8], rows: &mut [Row]) -> Result<Fill, Refusal>
-    requires { length section.now ≤ 16777216 }
-    ensures { Made (pmu_rows order section.now) result rows.new }
-{
-    let Some(count) = order.u32(section) else {
-        return Err(cut_short(0));
-    };
-    let mut fill = Fill::start(rows);
-    let mut rest = tail(section, 4);
-    for _k in 0..count {
-        let item = read_item(order, section.len() - rest.len(), rest)?;
-        fill = put(fill, rows, item.row);
-        rest = item.rest;
-    }
-    Ok(fill)
-}
+impl Mapping for PmuMappings {
+    ghost FEATURE = { 16 };
 
-// The table of a section.
-fn read_names(order: ByteOrder, section: &[u8], rows: &mut [Row]) -> Result<usize, Refusal>
-    requires { length section.now ≤ 16777216 }
-    ensures answer { outcome (λ n. n) result ≡ counted (within 16 (length rows.old) (pmu_names order section.now)) }
-    ensures after { rows.new ≡ laid_out (length rows.old) (pmu_rows order section.now) }
-    ensures entries { outcome (entries_in key_of section.now rows.new) result ≡ within 16 (length rows.old) (pmu_names order section.now) }
-{
-    let read = read_items(order, section, rows);
-    settle(PMU_MAPPINGS, read, rows)
+    ghost Key = { ℕ };
+
+    ghost key = { λ _. key_of };
+
+    ghost table = { pmu_rows };
+
+    ghost entries = { pmu_names };
+
+    const FEATURE: u32 = Feature::PMU_MAPPINGS.0;
+
+    fn read(order: ByteOrder, section: &[u8], rows: &mut [Row]) -> Result<Option<usize>, Refusal> {
+        let Some(count) = order.u32(section) else {
+            return Err(cut_short(0));
+        };
+        let mut fill = Fill::start(Numbers, rows);
+        let mut rest = tail(section, 4);
+        for _k in 0..count {
+            let item = read_item(order, section.len() - rest.len(), rest)?;
+            if let Some(row) = item.row {
+                fill.add(row);
+            }
+            rest = item.rest;
+        }
+        Ok(fill.finish())
+    }
 }
 
 // The names by rising numbers, in the first rows; the others are blank. Where a number is given again, the later name
@@ -133,18 +121,14 @@ pub fn pmu_mappings<'a, S: Store<'a>>(store: &S, rows: &mut [Row]) -> Result<Opt
     ensures after { rows.new ≡ laid_for (length rows.old) (question pmu_rows (S.endian store.now) ((S.map store.now).at 16)) }
     ensures entries { answered (entries_in key_of (bytes_in ((S.map store.now).at 16)) rows.new) result ≡ question (λ o s. within 16 (length rows.old) (pmu_names o s)) (S.endian store.now) ((S.map store.now).at 16) }
 {
-    let Some(section) = store.section(PMU_MAPPINGS) else {
-        blank_all(rows);
-        return Ok(None);
-    };
-    Ok(Some(read_names(store.order(), section, rows)?))
+    table_of::<PmuMappings, S>(store, rows)
 }
 
 // The entry that a row stands for; none where the store has no such section. The name is a part of the section.
 pub fn pmu_entry<'a, S: Store<'a>>(store: &S, row: &Row) -> Option<PmuEntry<'a>>
     ensures { mapped of_pmu result ≡ mapped (λ s. entry_of key_of s row.now) ((S.map store.now).at 16) }
 {
-    let section = store.section(PMU_MAPPINGS)?;
+    let section = store.section(PmuMappings::FEATURE)?;
     Some(PmuEntry {
         number: row.number,
         name: row.value(section),

@@ -1,6 +1,5 @@
 -- A view of header texts that have been checked.
-use Rattle.std.specs.Prelude.{◌≡◌, ℕ, List, [], ◌∷◌, Some, None, Ok, Err, Option, Result}
-use Rattle.std.specs.Borrow.{Bor}
+use Rattle.std.specs.Prelude.{ℕ, List, Ok, Err, Result}
 use Rattle.wire.specs.Faults.{fault_of}
 use Rattle.wire.specs.declared.refusal.Fault.{Fault}
 use Rattle.wire.specs.declared.refusal.Refusal.{Refusal}
@@ -10,11 +9,6 @@ use Rattle.perf_data.specs.Texts.{readable}
 -- The texts that a view has yet to give.
 abbrev pub to_come : StringList → List (List ℕ)
 to_come v = readable v.order v.left v.rest.now
-
--- A step gives the first of the texts to come and leaves the others; where none is to come, it gives none.
-abbrev pub Gives : List (List ℕ) → Option (Bor (List ℕ)) → List (List ℕ) → Type 0
-Gives texts None more = (texts ≡ []) × (more ≡ [])
-Gives texts (Some text) more = texts ≡ text.now ∷ more
 
 abbrev pub listed : Result StringList Refusal → Result (List (List ℕ)) Fault
 listed (Ok v) = Ok (to_come v)

@@ -7,7 +7,7 @@ ghost use Rattle.perf_data.specs.Texts.{feature_string, command_line};
 use crate::features::Feature;
 use crate::string_list::{StringList, read_string_list};
 use image::store::Store;
-use text::strings::read_string;
+use text::strings::{TextFault, read_string};
 use wire::refusal::Refusal;
 
 // The text of a feature whose section is a header text.
@@ -20,10 +20,9 @@ pub fn feature_string<'a, S: Store<'a>>(
     let Some(section) = store.section(feature.0) else {
         return Ok(None);
     };
-    match read_string(store.order(), section) {
-        Ok((text, _)) => Ok(Some(text)),
-        Err(fault) => Err(fault.refusal(feature.0, 0)),
-    }
+    let refused = |fault: TextFault| fault.refusal(feature.0, 0);
+    let (text, _) = read_string(store.order(), section).map_err(refused)?;
+    Ok(Some(text))
 }
 
 // The name of the machine that the recording was made on.
@@ -72,8 +71,8 @@ pub fn cpu_id<'a, S: Store<'a>>(store: &S) -> Result<Option<&'a str>, Refusal>
 pub fn cmdline<'a, S: Store<'a>>(store: &S) -> Result<Option<StringList<'a>>, Refusal>
     ensures { answered to_come result ≡ question command_line (S.endian store.now) ((S.map store.now).at 11) }
 {
-    match store.section(11) {
-        None => Ok(None),
-        Some(section) => Ok(Some(read_string_list(store.order(), section)?)),
-    }
+    let Some(section) = store.section(Feature::CMDLINE.0) else {
+        return Ok(None);
+    };
+    Ok(Some(read_string_list(store.order(), section)?))
 }

@@ -1,19 +1,19 @@
 // Lists of header texts: a u32 count, and that many texts.
 ghost use Rattle.std.specs.Prelude.{◌≡◌, ◌≤◌, length, drop};
-ghost use Rattle.perf_data.specs.Lists.{to_come, listed, Gives};
+ghost use Rattle.perf_data.specs.Lists.{to_come, listed};
 ghost use Rattle.perf_data.specs.Texts.{command_line, first_fault, fault_in, texts_in};
-ghost use Rattle.std.specs.Iterator.{at_most};
+ghost use Rattle.std.specs.Iterator.{at_most, YieldsFirstRef};
 
+use crate::features::Feature;
 use text::strings::read_string;
 use wire::order::{ByteOrder, tail};
 use wire::refusal::Refusal;
-
-const CMDLINE: u32 = 11;
 
 // Texts that have all been looked at, given one after the other. The texts lie in the section and outlive the list.
 #[derive(Clone, Copy)]
 pub struct StringList<'a> {
     order: ByteOrder,
+    // how many texts are left, in the first bytes of `rest`
     left: u32,
     rest: &'a [u8],
 }
@@ -22,24 +22,18 @@ pub struct StringList<'a> {
 impl<'a> Iterator for StringList<'a> {
     type Item = &'a str;
 
-    ghost next_gives = { λ s r t. Gives (to_come s) r (to_come t) };
+    ghost next_gives = { YieldsFirstRef to_come };
 
     ghost remaining = { λ s. at_most s.left };
 
     fn next(&mut self) -> Option<&'a str> {
-        if self.left == 0 {
-            return None;
-        }
+        self.left = self.left.checked_sub(1)?;
         match read_string(self.order, self.rest) {
             Ok((text, rest)) => {
-                self.left -= 1;
                 self.rest = rest;
                 Some(text)
             }
-            Err(_) => {
-                self.left = 0;
-                None
-            }
+            Err(_) => None,
         }
     }
 }
@@ -55,7 +49,7 @@ fn check_texts(order: ByteOrder, section: &[u8], count: u32) -> Result<(), Refus
             Ok((_, after)) => rest = after,
             Err(fault) => {
                 let at = section.len() - rest.len();
-                return Err(fault.refusal(CMDLINE, at as u32));
+                return Err(fault.refusal(Feature::CMDLINE.0, at as u32));
             }
         }
     }
@@ -67,9 +61,7 @@ pub(crate) fn read_string_list(order: ByteOrder, section: &[u8]) -> Result<Strin
     requires { length section.now ≤ 16777216 }
     ensures { listed result ≡ command_line order section.now }
 {
-    let Some(count) = order.u32(section) else {
-        return Err(Refusal::NoListCount);
-    };
+    let count = order.u32(section).ok_or(Refusal::NoListCount)?;
     check_texts(order, section, count)?;
     Ok(StringList {
         order,

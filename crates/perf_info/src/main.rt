@@ -2,63 +2,30 @@
 // read; or where it is refused.
 #![tactic(auto)]
 
-mod numbers;
+mod answer;
 mod printable;
-mod refused;
 mod tables;
+mod words;
 
+use answer::{print_answer, print_fault};
 use fixed_facts::perf_file::{
     clock_data, clock_frequency, compression_info, is_stats, nr_cpus, sample_time_range, total_mem,
 };
 use image::ask::section_of;
-use image::kinds::{Image, Kind};
+use image::kinds::Image;
 use image::store::Store;
-use numbers::{
-    print_clock, print_compression, print_cpus, print_frequency, print_memory, print_stats,
-    print_times,
-};
 use perf_data::features::Feature;
 use perf_data::perf_file::{arch, cmdline, cpu_desc, cpu_id, hostname, os_release, perf_version};
 use perf_data::string_list::StringList;
-use printable::Printable;
-use refused::{print_fault, print_refusal};
+use printable::Word;
 use std::io;
 use std::io::Read;
 use tables::{print_builds, print_meta, print_pmus, print_symbols};
-use wire::order::ByteOrder;
 use wire::refusal::Refusal;
+use words::InWords;
 
 // No image is longer. One byte more is read, which tells that the input is.
 const LONGEST_IMAGE: u64 = 16_777_216;
-
-fn kind_name(kind: Kind) -> &'static str {
-    match kind {
-        Kind::File => "file image",
-        Kind::Pipe => "pipe image",
-        Kind::Head => "head image",
-    }
-}
-
-fn order_name(order: ByteOrder) -> &'static str {
-    match order {
-        ByteOrder::Little => "little-endian",
-        ByteOrder::Big => "big-endian",
-    }
-}
-
-fn print_text(rt: &HostRuntime, answer: Result<Option<&str>, Refusal>) -> io::Result<()> {
-    match answer {
-        Ok(Some(text)) => {
-            let shown = Printable {
-                text,
-                is_word: false,
-            };
-            println!(rt; ": {shown}")
-        }
-        Ok(None) => println!(rt; ""),
-        Err(refusal) => print_fault(rt, refusal),
-    }
-}
 
 fn print_words(
     rt: &HostRuntime,
@@ -68,10 +35,7 @@ fn print_words(
         Ok(Some(words)) => {
             print!(rt; ":")?;
             for text in words {
-                let word = Printable {
-                    text,
-                    is_word: true,
-                };
+                let word = Word(text);
                 print!(rt; " {word}")?;
             }
             println!(rt; "")
@@ -90,23 +54,23 @@ fn print_fact<'a, S: Store<'a>>(
 ) -> io::Result<()> {
     match feature {
         Feature::BUILD_ID => print_builds(rt, store, section),
-        Feature::HOSTNAME => print_text(rt, hostname(store)),
-        Feature::OSRELEASE => print_text(rt, os_release(store)),
-        Feature::VERSION => print_text(rt, perf_version(store)),
-        Feature::ARCH => print_text(rt, arch(store)),
-        Feature::CPUDESC => print_text(rt, cpu_desc(store)),
-        Feature::CPUID => print_text(rt, cpu_id(store)),
-        Feature::NRCPUS => print_cpus(rt, nr_cpus(store)),
-        Feature::TOTAL_MEM => print_memory(rt, total_mem(store)),
+        Feature::HOSTNAME => print_answer(rt, hostname(store)),
+        Feature::OSRELEASE => print_answer(rt, os_release(store)),
+        Feature::VERSION => print_answer(rt, perf_version(store)),
+        Feature::ARCH => print_answer(rt, arch(store)),
+        Feature::CPUDESC => print_answer(rt, cpu_desc(store)),
+        Feature::CPUID => print_answer(rt, cpu_id(store)),
+        Feature::NRCPUS => print_answer(rt, nr_cpus(store)),
+        Feature::TOTAL_MEM => print_answer(rt, total_mem(store)),
         Feature::CMDLINE => print_words(rt, cmdline(store)),
         Feature::PMU_MAPPINGS => print_pmus(rt, store, section.len()),
         Feature::SIMPLEPERF_FILE => print_symbols(rt, store),
         Feature::SIMPLEPERF_META_INFO => print_meta(rt, store, section.len()),
-        Feature::STAT => print_stats(rt, is_stats(store)),
-        Feature::SAMPLE_TIME => print_times(rt, sample_time_range(store)),
-        Feature::CLOCKID => print_frequency(rt, clock_frequency(store)),
-        Feature::COMPRESSED => print_compression(rt, compression_info(store)),
-        Feature::CLOCK_DATA => print_clock(rt, clock_data(store)),
+        Feature::STAT if is_stats(store) => println!(rt; ": of perf stat"),
+        Feature::SAMPLE_TIME => print_answer(rt, sample_time_range(store)),
+        Feature::CLOCKID => print_answer(rt, clock_frequency(store)),
+        Feature::COMPRESSED => print_answer(rt, compression_info(store)),
+        Feature::CLOCK_DATA => print_answer(rt, clock_data(store)),
         _ => println!(rt; ""),
     }
 }
@@ -135,10 +99,13 @@ fn print_store<'a, S: Store<'a>>(rt: &HostRuntime, store: &S) -> io::Result<()> 
 
 fn print_image(rt: &HostRuntime, image: &[u8]) -> io::Result<()> {
     match Image::open(image) {
-        Err(refusal) => print_refusal(rt, refusal),
+        Err(refusal) => {
+            let refused = InWords(refusal);
+            println!(rt; "{refused}")
+        }
         Ok(store) => {
-            let kind = kind_name(store.kind());
-            let order = order_name(store.order());
+            let kind = InWords(store.kind());
+            let order = InWords(store.order());
             println!(rt; "{kind}, {order}")?;
             print_store(rt, &store)
         }

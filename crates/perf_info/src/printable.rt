@@ -2,6 +2,7 @@
 ghost use Rattle.std.specs.Prelude.{◌≡◌};
 ghost use Rattle.perf_info.specs.Plain.{is_plain};
 
+use crate::words::InWords;
 use std::fmt;
 
 // Whether a character is printed as it is: it is no control code, does not turn the direction of the line or end it,
@@ -18,23 +19,37 @@ fn is_plain(c: char) -> bool
     }
 }
 
-// A text. In a word of several, a space is escaped too, so that words can be told apart.
-#[derive(Clone, Copy)]
-pub struct Printable<'a> {
-    pub text: &'a str,
-    pub is_word: bool,
+// The characters of a text, each that is not plain by its number.
+fn write_escaped<W: fmt::Write, F: Fn(char) -> bool>(
+    f: &mut fmt::Formatter<W>,
+    text: &str,
+    is_plain: F,
+) -> fmt::Result
+    requires { F.IsAlwaysCallable is_plain }
+{
+    for c in text.chars() {
+        if is_plain(c) {
+            write!(f, "{c}")?;
+        } else {
+            let code = u32::from(c);
+            write!(f, "\\u{{{code:x}}}")?;
+        }
+    }
+    Ok(())
 }
 
-impl fmt::Display for Printable<'_> {
+impl fmt::Display for InWords<&str> {
     fn fmt<W: fmt::Write>(&self, f: &mut fmt::Formatter<W>) -> fmt::Result {
-        for c in self.text.chars() {
-            if is_plain(c) && !(self.is_word && c == ' ') {
-                write!(f, "{c}")?;
-            } else {
-                let code = u32::from(c);
-                write!(f, "\\u{{{code:x}}}")?;
-            }
-        }
-        Ok(())
+        write_escaped(f, self.0, is_plain)
+    }
+}
+
+// A word of several: a space is escaped too, so that words can be told apart.
+#[derive(Clone, Copy)]
+pub struct Word<'a>(pub &'a str);
+
+impl fmt::Display for Word<'_> {
+    fn fmt<W: fmt::Write>(&self, f: &mut fmt::Formatter<W>) -> fmt::Result {
+        write_escaped(f, self.0, |c| is_plain(c) && c != ' ')
     }
 }

@@ -1,9 +1,8 @@
 // Sections that are many entries: an entry a line, below the section's own.
-use crate::printable::Printable;
-use crate::refused::print_fault;
+use crate::answer::print_fault;
+use crate::words::InWords;
 use build_ids::builds::Builds;
 use build_ids::perf_file::build_ids;
-use dso_key::dso_key::DsoKey;
 use hexadecimal::Hex;
 use image::store::Store;
 use mappings::meta_info::{meta_entry, meta_info};
@@ -15,18 +14,13 @@ use std::io;
 use std::str::from_utf8;
 use table::row::Row;
 use text::shown::Shown;
+use wire::refusal::Refusal;
 
 // Bytes as a text: in their shown form, and escaped.
-fn print_bytes(rt: &HostRuntime, bytes: &[u8]) -> io::Result<()> {
+fn escaped(rt: &HostRuntime, bytes: &[u8]) -> io::Result<String> {
     let shown: Vec<u8> = Shown::new(bytes).collect(rt.alloc())?;
-    if let Ok(text) = from_utf8(&shown) {
-        let printable = Printable {
-            text,
-            is_word: false,
-        };
-        print!(rt; "{printable}")?;
-    }
-    Ok(())
+    let text = InWords(from_utf8(&shown).unwrap_or(""));
+    Ok(text.to_string(rt.alloc())?)
 }
 
 // Rows for as many entries as a section can have: the shortest is two bytes.
@@ -34,83 +28,73 @@ fn rows_for(rt: &HostRuntime, len: usize) -> io::Result<Vec<Row>> {
     Ok(vec![in rt.alloc(); Row::BLANK; len / 2 + 1]?)
 }
 
+// How many entries a table has, if it is there and not refused. Answers how many rows there are then.
+fn print_count(
+    rt: &HostRuntime,
+    answer: Result<Option<usize>, Refusal>,
+    entries: &str,
+) -> io::Result<usize> {
+    match answer {
+        Err(refusal) => {
+            print_fault(rt, refusal)?;
+            Ok(0)
+        }
+        Ok(None) => {
+            println!(rt; "")?;
+            Ok(0)
+        }
+        Ok(Some(used)) => {
+            println!(rt; ": {used} {entries}")?;
+            Ok(used)
+        }
+    }
+}
+
 pub fn print_pmus<'a, S: Store<'a>>(rt: &HostRuntime, store: &S, len: usize) -> io::Result<()> {
     let mut rows = rows_for(rt, len)?;
-    match pmu_mappings(store, &mut rows) {
-        Err(refusal) => print_fault(rt, refusal),
-        Ok(None) => println!(rt; ""),
-        Ok(Some(used)) => {
-            println!(rt; ": {used} names")?;
-            for row in rows.iter().take(used) {
-                if let Some(entry) = pmu_entry(store, row) {
-                    let number = entry.number;
-                    print!(rt; "    ")?;
-                    print_bytes(rt, entry.name)?;
-                    println!(rt; " = {number}")?;
-                }
-            }
-            Ok(())
+    let used = print_count(rt, pmu_mappings(store, &mut rows), "names")?;
+    for row in rows.iter().take(used) {
+        if let Some(entry) = pmu_entry(store, row) {
+            let name = escaped(rt, entry.name)?;
+            let number = entry.number;
+            println!(rt; "    {name} = {number}")?;
         }
-    }
-}
-
-pub fn print_meta<'a, S: Store<'a>>(rt: &HostRuntime, store: &S, len: usize) -> io::Result<()> {
-    let mut rows = rows_for(rt, len)?;
-    match meta_info(store, &mut rows) {
-        Err(refusal) => print_fault(rt, refusal),
-        Ok(None) => println!(rt; ""),
-        Ok(Some(used)) => {
-            println!(rt; ": {used} entries")?;
-            for row in rows.iter().take(used) {
-                if let Some(entry) = meta_entry(store, row) {
-                    print!(rt; "    ")?;
-                    print_bytes(rt, entry.key)?;
-                    print!(rt; " = ")?;
-                    print_bytes(rt, entry.value)?;
-                    println!(rt; "")?;
-                }
-            }
-            Ok(())
-        }
-    }
-}
-
-fn print_name(rt: &HostRuntime, key: DsoKey<'_>) -> io::Result<()> {
-    let name: Vec<u8> = key.name().collect(rt.alloc())?;
-    print_bytes(rt, &name)
-}
-
-// As `perf buildid-list` prints it, and then the name of the key.
-fn print_build(rt: &HostRuntime, builds: &Builds<'_>, row: &Row) -> io::Result<()> {
-    if let Some(key) = builds.key(row) {
-        let id = Hex(builds.id(row));
-        print!(rt; "    {id} ")?;
-        print_bytes(rt, builds.path(row))?;
-        print!(rt; " (")?;
-        print_name(rt, key)?;
-        println!(rt; ")")?;
     }
     Ok(())
 }
 
+pub fn print_meta<'a, S: Store<'a>>(rt: &HostRuntime, store: &S, len: usize) -> io::Result<()> {
+    let mut rows = rows_for(rt, len)?;
+    let used = print_count(rt, meta_info(store, &mut rows), "entries")?;
+    for row in rows.iter().take(used) {
+        if let Some(entry) = meta_entry(store, row) {
+            let key = escaped(rt, entry.key)?;
+            let value = escaped(rt, entry.value)?;
+            println!(rt; "    {key} = {value}")?;
+        }
+    }
+    Ok(())
+}
+
+// Programs as `perf buildid-list` prints them, each with the name of its key behind it.
 pub fn print_builds<'a, S: Store<'a>>(
     rt: &HostRuntime,
     store: &S,
     section: &[u8],
 ) -> io::Result<()> {
     let mut rows = rows_for(rt, section.len())?;
-    match build_ids(store, &mut rows) {
-        Err(refusal) => print_fault(rt, refusal),
-        Ok(None) => println!(rt; ""),
-        Ok(Some(used)) => {
-            println!(rt; ": {used} programs")?;
-            let builds = Builds { section };
-            for row in rows.iter().take(used) {
-                print_build(rt, &builds, row)?;
-            }
-            Ok(())
+    let used = print_count(rt, build_ids(store, &mut rows), "programs")?;
+    let builds = Builds { section };
+    for row in rows.iter().take(used) {
+        if let Some(key) = builds.key(row) {
+            let id = Hex(builds.id(row));
+            let path = escaped(rt, builds.path(row))?;
+            let name: Vec<u8> = key.name().collect(rt.alloc())?;
+            let name = escaped(rt, &name)?;
+            println!(rt; "    {id} {path} ({name})")?;
         }
     }
+    Ok(())
 }
 
 // How many symbols there are: a count in 32 bits, which a list of them alone tells.
@@ -119,11 +103,8 @@ fn count_of(symbols: SymbolList<'_>) -> usize {
 }
 
 fn print_file(rt: &HostRuntime, file: SimpleperfFileRecord<'_>) -> io::Result<()> {
-    let path = Printable {
-        text: file.path,
-        is_word: false,
-    };
-    let file_type = file.file_type;
+    let path = InWords(file.path);
+    let file_type = u32::from(file.file_type);
     let symbols = count_of(file.symbol);
     println!(rt; "    {path} (type {file_type}, {symbols} symbols)")
 }

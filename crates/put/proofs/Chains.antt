@@ -5,6 +5,8 @@ use Rattle.std.proofs.lemmas.List.{length-append}
 use Rattle.wire.specs.Numbers.{digits, bytes_of}
 use Rattle.wire.specs.declared.order.ByteOrder.TheVariants.{Little}
 use Rattle.put.specs.Overlay.{overlay, place}
+use Rattle.put.specs.declared.writer.Writer.{Writer}
+use Rattle.put.specs.Appends.{Appends, Goes}
 use Rattle.put.specs.Puts.{Puts}
 use Rattle.put.proofs.Overlays.{overlay_behind, overlay-before, overlay-none, overlay-place, length-overlay}
 
@@ -35,6 +37,36 @@ puts_none o a h = record { goes = omega arith; leaves = sym (overlay-none o a) }
 -- the same bytes under another name
 pub puts_same : {x y o p : List ℕ} {a r : ℕ} → x ≡ y → Puts x o a r p → Puts y o a r p
 puts_same {x} {y} {o} {p} {a} {r} e w = subst (λ z. Puts z o a r p) e w
+
+-- the same, of what a writer does to itself
+pub appends_then : {x y : List ℕ} {u v w : Writer} → Appends x u v → Appends y v w → Appends (x ++ y) u w
+appends_then {x} {y} {u} {v} {w} one two = record {
+  same_reference = two.same_reference ∙ one.same_reference;
+  puts = puts_then u.room one.puts two.puts;
+}
+
+-- `x` is put at the place `a` of `u` after `y`, for which that place was left; then the writer goes back to where `y` ends
+pub appends_before : {x y : List ℕ} {u v w v' w' z : Writer} {a b e : ℕ} → a ≡ u.at → b ≡ place (a + length x) → Goes b u v → Appends y v w → e ≡ w.at → Goes a w v' → Appends x v' w' → Goes e w' z → Appends (x ++ y) u z
+appends_before {x} {y} {u} {v} {w} {v'} {w'} {z} {a} {b} {e} from left leave two ends back one on = record {
+  same_reference = on.same_reference ∙ (one.same_reference ∙ (back.same_reference ∙ (two.same_reference ∙ leave.same_reference)));
+  puts =
+      let one' : Puts x w.out.now u.at w'.at w'.out.now = record {
+        goes = one.puts.goes ∙ (λ i. place ((back.place ∙ from) i + length x));
+        leaves = one.puts.leaves ∙ (λ i. overlay (back.leaves i) ((back.place ∙ from) i) x);
+      } in
+      let two' : Puts y u.out.now b w.at w.out.now = record {
+        goes = two.puts.goes ∙ ap (λ n. place (n + length y)) leave.place;
+        leaves = two.puts.leaves ∙ (λ i. overlay (leave.leaves i) (leave.place i) y);
+      } in
+      let both = puts_before u.room (left ∙ ap (λ n. place (n + length x)) from) two' one' in
+      record { goes = (on.place ∙ ends) ∙ both.goes; leaves = on.leaves ∙ both.leaves };
+}
+
+pub appends_none : (w : Writer) → Appends [] w w
+appends_none w = record { same_reference = refl; puts = puts_none w.out.now w.at w.counts }
+
+pub appends_same : {x y : List ℕ} {u v : Writer} → x ≡ y → Appends x u v → Appends y u v
+appends_same {x} {y} {u} {v} e w = subst (λ z. Appends z u v) e w
 
 digits_long : (w n : ℕ) → length (digits w n) ≡ w
 digits_long zero n = refl

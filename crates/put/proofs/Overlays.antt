@@ -74,12 +74,11 @@ overlay_least (b ∷ o) zero (y ∷ x) n e =
     let z : n ≡ suc (n - 1) = omega arith in
     rw z (ap (λ (z : List ℕ). y ∷ z) (overlay_least o zero x (n - 1) (omega arith)))
 
--- the same, as a write of `&x[0..n]` to `o[a..a + n]` leaves it
-pub overlay-part : (o : List ℕ) (a : ℕ) (x ys : List ℕ) (n : ℕ) → n ≡ min (length x) (length o - a) → ys ≡ take (n - 0) x → put_mid a (a + n - a) o ys ≡ overlay o a x
+-- the same, as a write of `&x[..n]` to `o[a..a + n]` leaves it
+pub overlay-part : (o : List ℕ) (a : ℕ) (x ys : List ℕ) (n : ℕ) → n ≡ min (length x) (length o - a) → ys ≡ take n x → put_mid a (a + n - a) o ys ≡ overlay o a x
 overlay-part o a x ys n e f =
     let k : a + n - a ≡ n = omega arith in
-    let z : n - 0 ≡ n = omega arith in
-    ap (λ (m : ℕ). put_mid a m o ys) k ∙ (ap (λ (y : List ℕ). put_mid a n o y) (f ∙ ap (λ (m : ℕ). take m x) z) ∙ overlay_least o a x n e)
+    (λ i. put_mid a (k i) o (f i)) ∙ overlay_least o a x n e
 
 -- at a place that is counted in 64 bits: a buffer ends before it stands still
 pub overlay-place : (o : List ℕ) (a : ℕ) (x : List ℕ) → length o < 2 ^ 64 → overlay o (place a) x ≡ overlay o a x

@@ -1,2 +1,3 @@
 pub mod Overlay
 pub mod Puts
+pub mod Appends

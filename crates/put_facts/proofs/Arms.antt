@@ -1,9 +1,10 @@
 -- What holds of a feature holds of the one that it is.
-use Rattle.std.proofs.Common.{◌≡◌, ℕ, ◌⊎◌, List, Option, Result, sym, refl, ap, ◌∙◌, subst, inl, inr, Bor}
+use Rattle.std.proofs.Common.{◌≡◌, ℕ, Bool, ◌⊎◌, List, Option, Result, sym, refl, ap, ◌∙◌, subst, inl, inr, Bor}
 use Rattle.wire.specs.declared.order.ByteOrder.{ByteOrder}
 use Rattle.wire.specs.declared.refusal.Refusal.{Refusal}
 use Rattle.table.specs.declared.row.Row.{Row}
 use Rattle.perf_data.specs.Questions.{question, answered}
+use Rattle.put.specs.declared.writer.Writer.{Writer}
 use Rattle.perf_data.specs.Texts.{feature_string}
 use Rattle.facts.specs.declared.carried.Carried.{Carried}
 use Rattle.facts.specs.declared.carried.Carried.TheVariants.{Hostname, OsRelease, Version, Arch, CpuDesc, CpuId}
@@ -15,7 +16,7 @@ use Rattle.put_facts.specs.Writes.{in_bytes, Writes}
 use Rattle.put_facts.proofs.Telling.{tells, writes_same}
 
 module _ {f v : Carried} (is : f ≡ v) where
-  pub writes_at : {out left : List ℕ} {place : ℕ} {r : Result (Option ℕ) Refusal} (n : ℕ) (o : ByteOrder) (at : Sections) → Writes (in_bytes (answer n o at v)) out place r left → Writes (in_bytes (answer n o at f)) out place r left
+  pub writes_at : {before after : Writer} {r : Result Bool Refusal} (n : ℕ) (o : ByteOrder) (at : Sections) → Writes (in_bytes (answer n o at v)) before r after → Writes (in_bytes (answer n o at f)) before r after
   writes_at n o at w = writes_same (ap (λ x. in_bytes (answer n o at x)) (sym is)) w
 
   pub rows_at : {left : List Row} (rows : List Row) → left ≡ rows_after v rows → left ≡ rows_after f rows

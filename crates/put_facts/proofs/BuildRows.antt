@@ -3,6 +3,7 @@ use Rattle.std.proofs.Common.{◌≡◌, ℕ, zero, suc, ◌+◌, ◌-◌, ◌%�
 use Rattle.std.specs.List.{flat_map}
 use Rattle.std.specs.Option.{option_map}
 use Rattle.std.proofs.lemmas.List.{length-drop, drop-drop}
+use Rattle.std.proofs.lemmas.List.Folds.{flat_map-map}
 use Rattle.wire.specs.declared.order.ByteOrder.{ByteOrder}
 use Rattle.table.specs.Rows.{key_part, value_part}
 use Rattle.table.specs.Table.{tabled}
@@ -22,8 +23,6 @@ use Rattle.build_ids.proofs.Reading.{records-end, records-more, event-size}
 use Rattle.build_ids.proofs.Parts.{path-part}
 use Rattle.facts.specs.Written.{mode_for, build_bytes}
 use Rattle.put_facts.specs.Builds.{record_bytes, row_bytes}
-use Rattle.put_facts.specs.Items.{together}
-use Rattle.put_facts.proofs.Mapped.{together-rows}
 
 -- the least mode for a key is that for the key that it gives itself
 least-of : (path : List ℕ) (m : ℕ) (d : Option Key) → least_of path d ≡ Some m → detect path (mode_of m) ≡ d → m ≡ mode_for (unwrap_or (detect path (mode_of m)) kernel) path
@@ -89,8 +88,8 @@ module _ (o : ByteOrder) (s : List ℕ) where
       ∙ sym (carries keys (row_key s) (λ p. p.0.0) with_due (λ r. refl) (rows_from 0 (records o s))))
 
   -- the table's rows are written as the entries that they stand for
-  pub rows_written : together (map (row_bytes s) (row_table o s)) ≡ flat_map build_bytes (map (entry_in s) (row_table o s))
+  pub rows_written : flat_map (row_bytes s) (row_table o s) ≡ flat_map build_bytes (map (entry_in s) (row_table o s))
   rows_written =
-      together-rows (λ p. p.1) with_own (row_table o s)
+      sym (flat_map-map (λ p. p.1) with_own (row_table o s))
       ∙ (ap (flat_map (λ p. p.1)) table_agrees
-      ∙ (sym (together-rows (λ p. p.1) with_due (row_table o s)) ∙ together-rows build_bytes (entry_in s) (row_table o s)))
+      ∙ (flat_map-map (λ p. p.1) with_due (row_table o s) ∙ sym (flat_map-map build_bytes (entry_in s) (row_table o s))))

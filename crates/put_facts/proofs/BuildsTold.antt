@@ -1,5 +1,6 @@
 -- From the rows of build ids to the fact that a head has of them.
 use Rattle.std.proofs.Common.{◌≡◌, ℕ, ◌-◌, Bool, true, false, cond, leb, List, ◌++◌, map, length, take, Some, None, Ok, Err, Option, Result, sym, refl, ap, ◌∙◌, arith}
+use Rattle.std.specs.List.{flat_map}
 use Rattle.std.proofs.lemmas.List.{take_all, take-append-le, length-map}
 use Rattle.wire.specs.Faults.{state_fault}
 use Rattle.wire.specs.declared.order.ByteOrder.{ByteOrder}
@@ -13,34 +14,33 @@ use Rattle.build_ids.specs.Rows.{entry_in, row_table, counted, answer, left}
 use Rattle.build_ids.proofs.Entries.{entries_stand}
 use Rattle.facts.specs.Facts.{fact_of, builds, write}
 use Rattle.put_facts.specs.Builds.{row_bytes}
-use Rattle.put_facts.specs.Items.{together}
 use Rattle.put_facts.specs.Writes.{in_bytes}
 use Rattle.put_facts.proofs.BuildRows.{rows_written}
 
 module _ (m : ℕ) (o : ByteOrder) (s : List ℕ) where
   -- the rows are enough, or they are too few
-  enough : (b : Bool) → answered (λ n. together (map (row_bytes s) (take n (cond b (row_table o s ++ blanks (m - length (row_table o s))) (blanks m))))) (counted (cond b (Some (length (row_table o s))) None)) ≡ in_bytes (present (fact_of builds (cond b (Ok (map (entry_in s) (row_table o s))) (Err (state_fault 31 2)))))
+  enough : (b : Bool) → answered (λ n. flat_map (row_bytes s) (take n (cond b (row_table o s ++ blanks (m - length (row_table o s))) (blanks m)))) (counted (cond b (Some (length (row_table o s))) None)) ≡ in_bytes (present (fact_of builds (cond b (Ok (map (entry_in s) (row_table o s))) (Err (state_fault 31 2)))))
   unfolding write
   enough true =
       let t = row_table o s in
       let all : take (length t) (t ++ blanks (m - length t)) ≡ t = take-append-le (length t) t (blanks (m - length t)) (omega arith) ∙ take_all (length t) t (omega arith) in
-      ap (λ rs. Ok (Some (together (map (row_bytes s) rs)))) all ∙ ap (λ b. Ok (Some b)) (rows_written o s)
+      ap (λ rs. Ok (Some (flat_map (row_bytes s) rs))) all ∙ ap (λ b. Ok (Some b)) (rows_written o s)
   enough false = refl
 
   entries_are : Ok (map (entry_in s) (row_table o s)) ≡ build_ids o s
   entries_are = cc (entries_stand o (Some s))
 
-  of_section : answered (λ n. together (map (row_bytes s) (take n (left m o (Some s))))) (answer m o (Some s)) ≡ in_bytes (question (λ o s. fact_of builds (within 2 m (build_ids o s))) o (Some s))
+  of_section : answered (λ n. flat_map (row_bytes s) (take n (left m o (Some s)))) (answer m o (Some s)) ≡ in_bytes (question (λ o s. fact_of builds (within 2 m (build_ids o s))) o (Some s))
   of_section =
       let t = row_table o s in
       enough (leb (length t) m)
       ∙ (ap (λ n. in_bytes (present (fact_of builds (cond (leb n m) (Ok (map (entry_in s) t)) (Err (state_fault 31 2)))))) (sym (length-map t (entry_in s)))
       ∙ ap (λ r. in_bytes (present (fact_of builds (within 2 m r)))) entries_are)
 
-of_answer : (m : ℕ) (o : ByteOrder) (section : Option (List ℕ)) → answered (λ n. together (map (row_bytes (bytes_in section)) (take n (left m o section)))) (answer m o section) ≡ in_bytes (question (λ o s. fact_of builds (within 2 m (build_ids o s))) o section)
+of_answer : (m : ℕ) (o : ByteOrder) (section : Option (List ℕ)) → answered (λ n. flat_map (row_bytes (bytes_in section)) (take n (left m o section))) (answer m o section) ≡ in_bytes (question (λ o s. fact_of builds (within 2 m (build_ids o s))) o section)
 of_answer m o None = refl
 of_answer m o (Some s) = of_section m o s
 
-pub builds_tell : (m : ℕ) (o : ByteOrder) (section : Option (List ℕ)) (used : Result (Option ℕ) Refusal) (rows : List Row) → used ≡ answer m o section → rows ≡ left m o section → answered (λ n. together (map (row_bytes (bytes_in section)) (take n rows))) used ≡ in_bytes (question (λ o s. fact_of builds (within 2 m (build_ids o s))) o section)
+pub builds_tell : (m : ℕ) (o : ByteOrder) (section : Option (List ℕ)) (used : Result (Option ℕ) Refusal) (rows : List Row) → used ≡ answer m o section → rows ≡ left m o section → answered (λ n. flat_map (row_bytes (bytes_in section)) (take n rows)) used ≡ in_bytes (question (λ o s. fact_of builds (within 2 m (build_ids o s))) o section)
 builds_tell m o section used rows p q =
-    (λ i. answered (λ n. together (map (row_bytes (bytes_in section)) (take n (q i)))) (p i)) ∙ of_answer m o section
+    (λ i. answered (λ n. flat_map (row_bytes (bytes_in section)) (take n (q i))) (p i)) ∙ of_answer m o section

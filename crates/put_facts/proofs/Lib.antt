@@ -1,5 +1,5 @@
 mod Firsts
-mod Mapped
+mod Drained
 mod Telling
 mod Arms
 mod BuildRows

@@ -1,13 +1,16 @@
 -- From what a question answers to the fact that a head has of it.
-use Rattle.std.proofs.Common.{◌≡◌, ℕ, true, false, List, [], map, take, is_some, Some, None, Ok, Err, Option, Result, sym, refl, ap, ◌∙◌, subst, true≢false}
+use Rattle.std.proofs.Common.{◌≡◌, ℕ, Bool, true, false, List, [], map, take, is_some, IsErrAnd, Some, None, Ok, Err, Option, Result, sym, refl, ap, ◌∙◌, subst}
+use Rattle.std.specs.Bool.{then_some}
+use Rattle.wire.specs.Faults.{fault_of}
 use Rattle.wire.specs.declared.order.ByteOrder.{ByteOrder}
 use Rattle.wire.specs.declared.refusal.Fault.{Fault}
 use Rattle.wire.specs.declared.refusal.Refusal.{Refusal}
 use Rattle.table.specs.declared.row.Row.{Row}
 use Rattle.perf_data.specs.Questions.{present, question, answered}
 use Rattle.facts.specs.Facts.{Fact, mark, fact_of, write}
-use Rattle.facts.specs.Head.{Answer, outcome}
-use Rattle.facts.specs.Places.{placed, overlaid}
+use Rattle.put.specs.declared.writer.Writer.{Writer}
+use Rattle.put.specs.Appends.{Appends}
+use Rattle.put.proofs.Chains.{appends_none}
 use Rattle.put_facts.specs.Writes.{Bytes, in_bytes, Writes}
 
 -- what is made of a value, if there is one
@@ -35,39 +38,29 @@ module _ {V : Type 0} (fact : V → Fact) where
   tells value bytes parse o section r e h =
       answered_over value (λ v. write (fact v)) bytes r h ∙ (ap (over (λ v. write (fact v))) e ∙ sym (fact_over parse o section))
 
-module _ {out left : List ℕ} {at : ℕ} {r : Result (Option ℕ) Refusal} where
-  pub writes_same : {b d : Bytes} → b ≡ d → Writes b out at r left → Writes d out at r left
-  writes_same e w = subst (λ x. Writes x out at r left) e w
+pub writes_same : {b d : Bytes} {u v : Writer} {r : Result Bool Refusal} → b ≡ d → Writes b u r v → Writes d u r v
+writes_same {b} {d} {u} {v} {r} e w = subst (λ x. Writes x u r v) e w
 
-  pub writes_placed : (a : Answer) → Writes (in_bytes a) out at r left → outcome r ≡ placed at a
-  writes_placed (Ok None) w = w.answers
-  writes_placed (Ok (Some v)) w = w.answers
-  writes_placed (Err e) w = w.answers
-
-  pub writes_overlaid : (a : Answer) → Writes (in_bytes a) out at r left → left ≡ overlaid at a out
-  writes_overlaid (Ok None) w = w.leaves
-  writes_overlaid (Ok (Some v)) w = w.leaves
-  writes_overlaid (Err e) w = w.leaves
-
--- the lines that a table's rows are, put together
-pub lines_tell : {T : Type 0} (bytes : List (List ℕ) → List ℕ) (lines : T → List (List ℕ)) (first : ℕ → List (List ℕ)) (t : Result (Option T) Refusal) (used : Result (Option ℕ) Refusal) → answered lines t ≡ answered first used → answered (λ x. bytes (lines x)) t ≡ answered (λ n. bytes (first n)) used
-lines_tell bytes lines first t used e =
-    answered_over lines bytes (λ x. bytes (lines x)) t (λ x q. refl)
-    ∙ (ap (over bytes) e ∙ sym (answered_over first bytes (λ n. bytes (first n)) used (λ n q. refl)))
-
--- a table in rows: `g` is what a row stands for, and `f` what that is written as
-module _ {T V : Type 0} (fact : List V → Fact) (bytes : List (List ℕ) → List ℕ) (f : V → List ℕ) (g : Row → V) (same : (rs : List Row) → bytes (map (λ r. f (g r)) rs) ≡ write (fact (map g rs))) where
-  pub table_tells : (lines : T → List (List ℕ)) (t : Result (Option T) Refusal) (rows : List Row) (used : Result (Option ℕ) Refusal) (parse : ByteOrder → List ℕ → Result (List V) Fault) (o : ByteOrder) (section : Option (List ℕ)) → answered lines t ≡ answered (λ n. map (λ r. f (g r)) (take n rows)) used → answered (λ n. map g (take n rows)) used ≡ question parse o section → answered (λ x. bytes (lines x)) t ≡ in_bytes (question (λ o s. fact_of fact (parse o s)) o section)
-  table_tells lines t rows used parse o section e h =
-      lines_tell bytes lines (λ n. map (λ r. f (g r)) (take n rows)) t used e
-      ∙ tells fact (λ n. map g (take n rows)) (λ n. bytes (map (λ r. f (g r)) (take n rows))) parse o section used h (λ n q. same (take n rows))
+-- a table in rows: `g` is what a row stands for, and `bytes` what rows are written as
+pub table_tells : {V : Type 0} (fact : List V → Fact) (bytes : List Row → List ℕ) (g : Row → V) (same : (rs : List Row) → bytes rs ≡ write (fact (map g rs))) (rows : List Row) (used : Result (Option ℕ) Refusal) (parse : ByteOrder → List ℕ → Result (List V) Fault) (o : ByteOrder) (section : Option (List ℕ)) → answered (λ n. map g (take n rows)) used ≡ question parse o section → answered (λ n. bytes (take n rows)) used ≡ in_bytes (question (λ o s. fact_of fact (parse o s)) o section)
+table_tells fact bytes g same rows used parse o section h =
+    tells fact (λ n. map g (take n rows)) (λ n. bytes (take n rows)) parse o section used h (λ n q. same (take n rows))
 
 -- a section that says no more than that it is there
-pub mark_there : (o : ByteOrder) (section : Option (List ℕ)) → true ≡ is_some section → ◌≡◌ {A = Bytes} (Ok (Some [])) (in_bytes (question (λ _ _. Ok mark) o section))
+pub mark_is : {X : Type 0} (x : X) (o : ByteOrder) (section : Option (List ℕ)) (b : Bool) (r : Option X) → b ≡ is_some section → r ≡ then_some b x → answered {V = List ℕ} (λ _. []) (Ok r) ≡ in_bytes (question (λ _ _. Ok mark) o section)
 unfolding write
-mark_there o None e = absurd (true≢false e)
-mark_there o (Some s) e = refl
+mark_is x o None b r e f = ap (λ y. answered {V = List ℕ} (λ _. []) (Ok y)) (f ∙ ap (λ c. then_some c x) e)
+mark_is x o (Some s) b r e f = ap (λ y. answered {V = List ℕ} (λ _. []) (Ok y)) (f ∙ ap (λ c. then_some c x) e)
 
-pub mark_absent : (o : ByteOrder) (section : Option (List ℕ)) → false ≡ is_some section → ◌≡◌ {A = Bytes} (Ok None) (in_bytes (question (λ _ _. Ok mark) o section))
-mark_absent o None e = refl
-mark_absent o (Some s) e = absurd (true≢false (sym e))
+-- what is written of an answer: its fact, or nothing
+module _ {X : Type 0} (bytes : X → List ℕ) {read : Result (Option X) Refusal} {u : Writer} where
+  pub writes_there : {v : Writer} (x : X) → read ≡ Ok (Some x) → Appends (bytes x) u v → Writes (answered bytes read) u (Ok true) v
+  writes_there {v} x is a = subst (λ r. Writes (answered bytes r) u (Ok true) v) (sym is) (record { answers = refl; appends = a })
+
+  pub writes_absent : read ≡ Ok None → Writes (answered bytes read) u (Ok false) u
+  writes_absent is = subst (λ r. Writes (answered bytes r) u (Ok false) u) (sym is) (record { answers = refl; appends = appends_none u })
+
+  pub writes_fault : (e : Refusal) (r : Result Bool Refusal) → read ≡ Err e → IsErrAnd r (λ y. y ≡ e) → Writes (answered bytes read) u r u
+  writes_fault e (Err y) is same =
+      subst (λ q. Writes (answered bytes q) u (Err y) u) (sym is) (record { answers = ap (λ z. Err (fault_of z)) same; appends = appends_none u })
+  writes_fault e (Ok b) is same = absurd same

@@ -1,18 +1,24 @@
--- Items that are written one after the other.
-use Rattle.std.specs.Prelude.{◌≡◌, ℕ, List, [], ◌∷◌, ◌++◌, length, Some, None, Option}
+-- Items and rows that are written one after the other.
+use Rattle.std.specs.Prelude.{◌≡◌, ℕ, ◌%◌, ◌^◌, List, ◌++◌, length, Option}
+use Rattle.std.specs.Iterator.{Drains}
 use Rattle.std.specs.List.{flat_map}
-use Rattle.put.specs.Puts.{Puts}
-use Rattle.facts.specs.Written.{u32}
+use Rattle.put.specs.declared.writer.Writer.{Writer}
+use Rattle.put.specs.Appends.{Appends}
+use Rattle.facts.specs.Written.{counted_bytes}
 
--- The bytes of items, one after the other.
-abbrev pub together : List (List ℕ) → List ℕ
-together items = flat_map (λ item. item) items
+-- Everything that an iterator gives was put, one item after the other, and counted by the low 32 bits.
+pub record PutsItems {S A : Type 0} (steps : S → Option A → S → Type 0) (bytes : A → List ℕ) (s : S) (before : Writer) (count : ℕ) (after : Writer) : Type 0 where
+  pub items : List A
+  pub drains : Drains steps s items
+  pub appends : Appends (flat_map bytes items) before after
+  pub counts : count ≡ length items % 2 ^ 32
 
--- The same with their count before them.
-abbrev pub with_count : List (List ℕ) → List ℕ
-with_count items = u32 (length items) ++ together items
+-- The same with the count before them.
+pub record PutsCounted {S A : Type 0} (steps : S → Option A → S → Type 0) (bytes : A → List ℕ) (s : S) (before after : Writer) : Type 0 where
+  pub items : List A
+  pub drains : Drains steps s items
+  pub appends : Appends (counted_bytes bytes items) before after
 
--- A step puts the first of the items to come and leaves the others; where none is to come, it puts nothing.
-abbrev pub PutsNext : List (List ℕ) → List ℕ → ℕ → Option ℕ → List (List ℕ) → List ℕ → Type 0
-PutsNext items out at None more left = (items ≡ []) × (left ≡ out)
-PutsNext items out at (Some next) more left = (item : List ℕ) × (items ≡ item ∷ more) × Puts item out at next left
+-- The bytes of values behind what stands before so many.
+abbrev pub listed_bytes : {V : Type 0} → (ℕ → List ℕ) → (V → List ℕ) → List V → List ℕ
+listed_bytes front bytes vs = front (length vs) ++ flat_map bytes vs

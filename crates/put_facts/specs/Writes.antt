@@ -1,8 +1,9 @@
 -- What a call that writes the answer of a question does.
-use Rattle.std.specs.Prelude.{◌≡◌, ℕ, ◌+◌, List, length, Some, None, Ok, Err, Option, Result}
+use Rattle.std.specs.Prelude.{◌≡◌, ℕ, Bool, true, false, List, [], Some, None, Ok, Err, Option, Result}
 use Rattle.wire.specs.declared.refusal.Fault.{Fault}
 use Rattle.wire.specs.declared.refusal.Refusal.{Refusal}
-use Rattle.put.specs.Overlay.{overlay, place}
+use Rattle.put.specs.declared.writer.Writer.{Writer}
+use Rattle.put.specs.Appends.{Appends}
 use Rattle.facts.specs.Facts.{write}
 use Rattle.facts.specs.Head.{Answer, outcome}
 
@@ -15,18 +16,18 @@ in_bytes (Ok None) = Ok None
 in_bytes (Ok (Some v)) = Ok (Some (write v))
 in_bytes (Err e) = Err e
 
--- The place after bytes that are written from a place on; none where there are none.
-abbrev pub next_of : ℕ → Bytes → Result (Option ℕ) Fault
-next_of at (Ok None) = Ok None
-next_of at (Ok (Some b)) = Ok (Some (place (at + length b)))
-next_of at (Err e) = Err e
+-- Whether there are bytes.
+abbrev pub there : Bytes → Result Bool Fault
+there (Ok None) = Ok false
+there (Ok (Some b)) = Ok true
+there (Err e) = Err e
 
--- The buffer after it.
-abbrev pub left_of : ℕ → Bytes → List ℕ → List ℕ
-left_of at (Ok None) out = out
-left_of at (Ok (Some b)) out = overlay out at b
-left_of at (Err e) out = out
+-- What is put: nothing where there are none.
+abbrev pub put_of : Bytes → List ℕ
+put_of (Ok None) = []
+put_of (Ok (Some b)) = b
+put_of (Err e) = []
 
-pub record Writes (b : Bytes) (out : List ℕ) (at : ℕ) (r : Result (Option ℕ) Refusal) (left : List ℕ) : Type 0 where
-  pub answers : outcome r ≡ next_of at b
-  pub leaves : left ≡ left_of at b out
+pub record Writes (b : Bytes) (before : Writer) (r : Result Bool Refusal) (after : Writer) : Type 0 where
+  pub answers : outcome r ≡ there b
+  pub appends : Appends (put_of b) before after

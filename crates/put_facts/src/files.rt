@@ -1,61 +1,51 @@
 // The records of files in a simpleperf recording.
-ghost use Rattle.std.specs.Prelude.{map};
 ghost use Rattle.facts.specs.Written.{info_bytes, file_bytes};
-ghost use Rattle.put.specs.Puts.{Puts};
+ghost use Rattle.put.specs.Appends.{Appends};
 ghost use Rattle.put_facts.specs.Sized.{counted_file};
-ghost use Rattle.simpleperf.specs.Answers.{info_of, file_of, files_of};
+ghost use Rattle.simpleperf.specs.Answers.{info_of, file_of};
 
-use crate::items::{Items, put_counted};
+use crate::items::put_counted;
 use crate::parts::{put_ended, put_len};
-use put::{put_u32, put_u64};
+use put::Writer;
 use simpleperf::file::SimpleperfFileRecord;
 use simpleperf::info::SimpleperfTypeSpecificInfo;
-use simpleperf::tables::SymbolTables;
 
 // The tail of a record. The offset is written also where the recording left it out.
-fn put_info(out: &mut [u8], at: usize, info: Option<SimpleperfTypeSpecificInfo<'_>>) -> usize
-    ensures { Puts (info_bytes (info_of info.entry)) out.old «at» result out.new }
+fn put_info(info: Option<SimpleperfTypeSpecificInfo<'_>>, w: &mut Writer<'_>)
+    ensures { Appends (info_bytes (info_of info.entry)) w.old w.new }
 {
     let Some(info) = info else {
-        return at;
+        return;
     };
     match info {
         SimpleperfTypeSpecificInfo::SimpleperfDexFileInfo(dex) => {
-            let mut offsets = dex.dex_file_offset;
-            put_counted(&mut offsets, out, at)
+            put_counted(dex.dex_file_offset, w);
         }
-        SimpleperfTypeSpecificInfo::ElfFile(elf) => put_u64(out, at, elf.file_offset_of_min_vaddr),
+        SimpleperfTypeSpecificInfo::ElfFile(elf) => {
+            w.put_number(elf.file_offset_of_min_vaddr);
+        }
         SimpleperfTypeSpecificInfo::KernelModule(module) => {
-            put_u64(out, at, module.memory_offset_of_min_vaddr)
+            w.put_number(module.memory_offset_of_min_vaddr);
         }
     }
 }
 
-fn put_file(out: &mut [u8], at: usize, file: SimpleperfFileRecord<'_>) -> usize
-    ensures { Puts (file_bytes (file_of file.entry)) out.old «at» result out.new }
+fn put_file(file: SimpleperfFileRecord<'_>, w: &mut Writer<'_>)
+    ensures { Appends (file_bytes (file_of file.entry)) w.old w.new }
 {
-    let mut symbols = file.symbol;
-    let at = put_ended(out, at, file.path.as_bytes());
-    let at = put_u32(out, at, file.file_type);
-    let at = put_u64(out, at, file.min_vaddr);
-    let at = put_counted(&mut symbols, out, at);
-    put_info(out, at, file.type_specific_msg)
+    put_ended(file.path.as_bytes(), w);
+    w.put_number(u32::from(file.file_type));
+    w.put_number(file.min_vaddr);
+    put_counted(file.symbol, w);
+    put_info(file.type_specific_msg, w);
 }
 
 // A record with its length before it, which a first pass counts.
-fn put_sized(out: &mut [u8], at: usize, file: SimpleperfFileRecord<'_>) -> usize
-    ensures { Puts (counted_file (file_of file.entry)) out.old «at» result out.new }
+pub(crate) fn put_sized(file: SimpleperfFileRecord<'_>, w: &mut Writer<'_>)
+    ensures { Appends (counted_file (file_of file.entry)) w.old w.new }
 {
-    let len = put_file(&mut [], 0, file);
-    let at = put_len(out, at, len);
-    put_file(out, at, file)
-}
-
-impl Items for SymbolTables<'_> {
-    ghost items = { λ s. map counted_file (files_of s) };
-
-    fn put_next(&mut self, out: &mut [u8], at: usize) -> Option<usize> {
-        let file = self.next()?;
-        Some(put_sized(out, at, file))
-    }
+    let mut counter = Writer::new(&mut []);
+    put_file(file, &mut counter);
+    put_len(counter.at(), w);
+    put_file(file, w);
 }

@@ -1,14 +1,30 @@
 // The rows of each table, as a head has them.
-ghost use Rattle.facts.specs.Written.{name_bytes, pair_bytes};
+ghost use Rattle.std.specs.Prelude.{ℕ, List, []};
+ghost use Rattle.facts.specs.Written.{u32, name_bytes, pair_bytes};
 ghost use Rattle.mappings.specs.PmuMappings.{key_of};
+ghost use Rattle.put.specs.Appends.{Appends};
 ghost use Rattle.put_facts.specs.Builds.{row_bytes};
 ghost use Rattle.table.specs.Rows.{key_part, entry_of};
+ghost use Rattle.table.specs.declared.row.Row.{Row as Rows};
 
-use crate::parts::{put_above, put_ended, put_id, put_text};
-use crate::rows::Line;
+use crate::parts::{put_above, put_ended, put_id, put_len, put_text};
 use build_ids::builds::Builds;
-use put::{put, put_u32};
+use put::Writer;
 use table::row::Row;
+
+// What the rows of a table stand for.
+pub(crate) trait Line {
+    // What stands before so many rows, and what a row is written as.
+    ghost front: { ℕ → List ℕ };
+
+    ghost line: { Self → Rows → List ℕ };
+
+    fn put_front(&self, count: usize, w: &mut Writer<'_>)
+        ensures { Appends (front count) w.old w.new };
+
+    fn put_row(&self, row: &Row, w: &mut Writer<'_>)
+        ensures { Appends (line self.now row.now) w.old w.new };
+}
 
 // A PMU's number with its name.
 #[derive(Clone, Copy)]
@@ -17,11 +33,17 @@ pub(crate) struct Names<'a> {
 }
 
 impl Line for Names<'_> {
+    ghost front = { u32 };
+
     ghost line = { λ s row. name_bytes (entry_of key_of s.section.now row) };
 
-    fn put_row(&self, row: &Row, out: &mut [u8], at: usize) -> usize {
-        let at = put_u32(out, at, row.number);
-        put_text(out, at, row.value(self.section))
+    fn put_front(&self, count: usize, w: &mut Writer<'_>) {
+        put_len(count, w);
+    }
+
+    fn put_row(&self, row: &Row, w: &mut Writer<'_>) {
+        w.put_number(row.number);
+        put_text(row.value(self.section), w);
     }
 }
 
@@ -32,11 +54,15 @@ pub(crate) struct Pairs<'a> {
 }
 
 impl Line for Pairs<'_> {
+    ghost front = { λ _. [] };
+
     ghost line = { λ s row. pair_bytes (entry_of (key_part s.section.now) s.section.now row) };
 
-    fn put_row(&self, row: &Row, out: &mut [u8], at: usize) -> usize {
-        let at = put_ended(out, at, row.key(self.section));
-        put_ended(out, at, row.value(self.section))
+    fn put_front(&self, _count: usize, _w: &mut Writer<'_>) {}
+
+    fn put_row(&self, row: &Row, w: &mut Writer<'_>) {
+        put_ended(row.key(self.section), w);
+        put_ended(row.value(self.section), w);
     }
 }
 
@@ -48,17 +74,22 @@ const SIZED_ID: u16 = 0x8000;
 // What a build id record has before its path.
 const FRONT: u16 = 36;
 
+const NO_PROCESS: u32 = 0;
+
 impl Line for Builds<'_> {
+    ghost front = { λ _. [] };
+
     ghost line = { λ s row. row_bytes s.section.now row };
 
-    fn put_row(&self, row: &Row, out: &mut [u8], at: usize) -> usize {
+    fn put_front(&self, _count: usize, _w: &mut Writer<'_>) {}
+
+    fn put_row(&self, row: &Row, w: &mut Writer<'_>) {
         let path = self.path(row);
-        let at = put_u32(out, at, BUILD_ID_TYPE);
-        let at = put_above(out, at, SIZED_ID, row.number as usize);
-        let at = put_above(out, at, FRONT, path.len());
-        // no process
-        let at = put_u32(out, at, 0);
-        let at = put_id(out, at, self.id(row));
-        put(out, at, path)
+        w.put_number(BUILD_ID_TYPE);
+        put_above(SIZED_ID, row.number as usize, w);
+        put_above(FRONT, path.len(), w);
+        w.put_number(NO_PROCESS);
+        put_id(self.id(row), w);
+        w.put(path);
     }
 }

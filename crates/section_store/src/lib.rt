@@ -9,6 +9,12 @@ use image::ask::{Section, section_of};
 use image::store::Store;
 use wire::order::ByteOrder;
 
+// The last feature that there is.
+const LAST_FEATURE: u32 = 255;
+
+// The most bytes that a section has.
+const MOST_BYTES: usize = 16_777_216;
+
 #[derive(Clone, Copy)]
 pub struct SectionStore<'a> {
     order: ByteOrder,
@@ -40,13 +46,7 @@ impl<'a> Store<'a> for SectionStore<'a> {
     }
 
     fn section(&self, number: u32) -> Option<&'a [u8]> {
-        if number > 255 {
-            return None;
-        }
-        if number != self.feature {
-            return None;
-        }
-        if self.bytes.len() > 16_777_216 {
+        if number > LAST_FEATURE || number != self.feature || self.bytes.len() > MOST_BYTES {
             return None;
         }
         Some(self.bytes)

@@ -1,5 +1,5 @@
 -- What a shelf holds after a change at one place.
-use Rattle.std.proofs.Common.{◌≡◌, ℕ, ◌+◌, ◌*◌, ◌<◌, ◌≤◌, List, ◌++◌, map, length, get_or, take, drop, set, vec_items, vec_len, Vec, sym, ap, ◌∙◌, subst, ⊎_elim, arith, rules}
+use Rattle.std.proofs.Common.{◌≡◌, ℕ, ◌+◌, ◌*◌, ◌<◌, ◌≤◌, List, ◌++◌, map, length, get_or, take, drop, set, vec_items, vec_len, Vec, Option, Some, None, sym, ap, ◌∙◌, subst, ⊎_elim, arith, rules}
 use borrow.Rule.Slice.PartMut.{put_mid}
 use Rattle.std.proofs.lemmas.List.FromFn.{length-map-range_with_len, get_or-map-range_with_len}
 use Rattle.std.proofs.lemmas.List.{ext_get_or, get_or_past, get_or-set_other, get_or-set_same, drop-take, drop_at, length-set, length-take-le, places, with_items_is, take_at}
@@ -8,8 +8,10 @@ use Rattle.std.proofs.lemmas.Bool.{cases_eq, cases_lt, cases_order}
 use Rattle.std.specs.Vec.{with_items}
 use Rattle.std.specs.List.{range_with_len}
 use Rattle.shelf.specs.declared.shelf.Group.{Group}
-use Rattle.shelf.specs.Rows.{Row, row_of, row_at, strip_at, free, Within}
-use Rattle.shelf.specs.Contents.{contents_of, blank, put}
+use Rattle.shelf.specs.Rows.{Row, row_of, row_at, strip_at, FitsStrip}
+use Rattle.shelf.specs.Contents.{blank, put}
+use Rattle.shelf.specs.Strips.{contents_of}
+use Rattle.shelf.specs.Calls.{recount}
 use Rattle.shelf.proofs.Places.{strip_end}
 
 -- the rows by place, where they change at one place
@@ -26,10 +28,10 @@ rows_set f g n i r l here others =
         (cases_eq j i)
 
 -- a group changes and its strip does not
-pub regrouped : (strip n next : ℕ) (gs : List Group) (g : Group) (bytes : List ℕ) (i : ℕ) → i < n → n ≤ length gs → contents_of strip n next (set gs i g) bytes ≡ put (contents_of strip n next gs bytes) i (row_of g (strip_at strip bytes i))
+pub regrouped : (strip n next : ℕ) (gs : List (Option Group)) (g : Option Group) (bytes : List ℕ) (i : ℕ) → i < n → n ≤ length gs → contents_of strip n next (set gs i g) bytes ≡ put (contents_of strip n next gs bytes) i (row_of g (strip_at strip bytes i))
 regrouped strip n next gs g bytes i l few =
     ap (λ (rs : List Row). record { strip = strip; next = next; rows = rs; tail = drop (n * strip) bytes })
-    (rows_set (row_at strip gs bytes) (row_at strip (set gs i g) bytes) n i (row_of g (strip_at strip bytes i)) l (ap (λ (x : Group). row_of x (strip_at strip bytes i)) (get_or-set_same gs i g free (omega arith))) (λ j e. ap (λ (x : Group). row_of x (strip_at strip bytes j)) (get_or-set_other gs i j g free e)))
+    (rows_set (row_at strip gs bytes) (row_at strip (set gs i g) bytes) n i (row_of g (strip_at strip bytes i)) l (ap (λ (x : Option Group). row_of x (strip_at strip bytes i)) (get_or-set_same gs i g None (omega arith))) (λ j e. ap (λ (x : Option Group). row_of x (strip_at strip bytes j)) (get_or-set_other gs i j g None e)))
 
 -- the strips after a write to one
 strip_other : (strip i j n : ℕ) (xs ys : List ℕ) → i < n → n * strip ≤ length xs → length ys ≡ strip → (j ≡ i → ⊥) → strip_at strip (put_mid (i * strip) strip xs ys) j ≡ strip_at strip xs j
@@ -50,10 +52,10 @@ strip_here strip i n xs ys l room e =
     ∙ take_at ys (drop strip (drop (i * strip) xs)) strip e
 
 -- a group and its strip change
-rewritten : (strip n next : ℕ) (gs : List Group) (g : Group) (xs ys : List ℕ) (i : ℕ) → i < n → n ≤ length gs → n * strip ≤ length xs → length ys ≡ strip → contents_of strip n next (set gs i g) (put_mid (i * strip) strip xs ys) ≡ put (contents_of strip n next gs xs) i (row_of g ys)
+rewritten : (strip n next : ℕ) (gs : List (Option Group)) (g : Option Group) (xs ys : List ℕ) (i : ℕ) → i < n → n ≤ length gs → n * strip ≤ length xs → length ys ≡ strip → contents_of strip n next (set gs i g) (put_mid (i * strip) strip xs ys) ≡ put (contents_of strip n next gs xs) i (row_of g ys)
 rewritten strip n next gs g xs ys i l few room e =
     ap (λ (rs : List Row). record { strip = strip; next = next; rows = rs; tail = drop (n * strip) bytes })
-    (rows_set (row_at strip gs xs) (row_at strip (set gs i g) bytes) n i (row_of g ys) l (ap (λ (x : Group). row_of x (strip_at strip bytes i)) (get_or-set_same gs i g free (omega arith)) ∙ ap (row_of g) (strip_here strip i n xs ys l room e)) (λ j ne. ap (λ (x : Group). row_of x (strip_at strip bytes j)) (get_or-set_other gs i j g free ne) ∙ ap (row_of (get_or gs j free)) (strip_other strip i j n xs ys l room e ne)))
+    (rows_set (row_at strip gs xs) (row_at strip (set gs i g) bytes) n i (row_of g ys) l (ap (λ (x : Option Group). row_of x (strip_at strip bytes i)) (get_or-set_same gs i g None (omega arith)) ∙ ap (row_of g) (strip_here strip i n xs ys l room e)) (λ j ne. ap (λ (x : Option Group). row_of x (strip_at strip bytes j)) (get_or-set_other gs i j g None ne) ∙ ap (row_of (get_or gs j None)) (strip_other strip i j n xs ys l room e ne)))
     ∙ ap (λ (t : List ℕ). record { strip = strip; next = next; rows = set (map (row_at strip gs xs) (range_with_len 0 n)) i (row_of g ys); tail = t }) (drop-put_mid (i * strip) strip xs ys (n * strip) (strip_end i n strip l) (omega (arith, strip_end i n strip l)) e)
   where
     bytes : List ℕ
@@ -63,7 +65,7 @@ length-put : (a k : ℕ) (xs ys : List ℕ) → a + k ≤ length xs → length y
 length-put a k xs ys p q = search (rules, places)
 
 -- as the code has it: the strip of the vector was lent, and came back as `ys`
-pub lent_strip : {Z : Type 0} (v : Vec ℕ Z) (strip n next k : ℕ) (gs : List Group) (g : Group) (xs ys : List ℕ) (i : ℕ) → xs ≡ vec_items v → i < n → n ≤ length gs → n * strip ≤ vec_len v → k ≡ strip → length ys ≡ strip → contents_of strip n next (set gs i g) (vec_items (with_items v (put_mid (i * strip) k xs ys))) ≡ put (contents_of strip n next gs (vec_items v)) i (row_of g ys)
+pub lent_strip : {Z : Type 0} (v : Vec ℕ Z) (strip n next k : ℕ) (gs : List (Option Group)) (g : Option Group) (xs ys : List ℕ) (i : ℕ) → xs ≡ vec_items v → i < n → n ≤ length gs → n * strip ≤ vec_len v → k ≡ strip → length ys ≡ strip → contents_of strip n next (set gs i g) (vec_items (with_items v (put_mid (i * strip) k xs ys))) ≡ put (contents_of strip n next gs (vec_items v)) i (row_of g ys)
 lent_strip v strip n next k gs g xs ys i e l few room q r =
     ap (λ (m : ℕ). contents_of strip n next (set gs i g) (vec_items (with_items v (put_mid (i * strip) m xs ys)))) q
     ∙ ap (contents_of strip n next (set gs i g)) (with_items_is v (put_mid (i * strip) strip xs ys) (length-put (i * strip) strip xs ys (omega (arith, long, strip_end i n strip l)) r ∙ long))
@@ -73,14 +75,21 @@ lent_strip v strip n next k gs g xs ys i e l few room q r =
     long : length xs ≡ vec_len v
     long = ap length e ∙ sym v.ok.0
 
--- heads stay within a strip
-pub within_set : (strip : ℕ) (gs : List Group) (i : ℕ) (g : Group) → Within strip gs → g.len ≤ strip → Within strip (set gs i g)
-within_set strip gs i g w p j =
+-- every group still has a number, and a head within its strip
+pub fits_set : (strip : ℕ) (gs : List (Option Group)) (i : ℕ) (g : Option Group) → ((j : ℕ) → FitsStrip strip (get_or gs j None)) → FitsStrip strip g → (j : ℕ) → FitsStrip strip (get_or (set gs i g) j None)
+fits_set strip gs i g w p j =
     ⊎_elim
-    (λ e. ⊎_elim (λ l. subst (λ (x : Group). x.len ≤ strip) (sym (ap (λ (a : ℕ). get_or (set gs a g) j free) (sym e) ∙ get_or-set_same gs j g free l)) p) (λ l. subst (λ (x : Group). x.len ≤ strip) (sym (get_or_past (set gs i g) j free (omega (arith, length-set gs i g)))) (omega arith)) (cases_lt j (length gs)))
-    (λ e. subst (λ (x : Group). x.len ≤ strip) (sym (get_or-set_other gs i j g free e)) (w j))
+    (λ e. ⊎_elim (λ l. subst (FitsStrip strip) (sym (ap (λ (a : ℕ). get_or (set gs a g) j None) (sym e) ∙ get_or-set_same gs j g None l)) p) (λ l. subst (FitsStrip strip) (sym (get_or_past (set gs i g) j None (omega (arith, length-set gs i g)))) tt) (cases_lt j (length gs)))
+    (λ e. subst (FitsStrip strip) (sym (get_or-set_other gs i j g None e)) (w j))
     (cases_eq j i)
 
--- a strip that is lent has a strip's bytes
-pub length-strip : (a k : ℕ) (xs : List ℕ) → a + k ≤ length xs → length (take k (drop a xs)) ≡ k
-length-strip a k xs p = search (rules, places)
+-- a group with another count
+pub recounted : (slot : Option Group) (b : List ℕ) (g : Group) (count : ℕ) → 1 ≤ g.number → (row_of slot b).number ≡ g.number → length (row_of slot b).head ≡ g.len → FitsStrip (length b) slot → row_of (Some (record { number = g.number; count = count; len = g.len })) b ≡ recount (row_of slot b) count
+recounted None b g count p e h f = absurd (omega arith)
+recounted (Some x) b g count p e h f =
+    let l : g.len ≡ x.len = omega (arith, h, length-take-le x.len b f.1) in
+    ap (λ (n : ℕ). record { number = n; count = count; head = take g.len b; rest = drop g.len b }) (sym e)
+    ∙ ap (λ (n : ℕ). record { number = x.number; count = count; head = take n b; rest = drop n b }) l
+
+pub fits_bytes : (strip n : ℕ) (slot : Option Group) → strip ≡ n → FitsStrip strip slot → FitsStrip n slot
+fits_bytes strip n slot e f = subst (λ (k : ℕ). FitsStrip k slot) e f

@@ -1,4 +1,5 @@
 pub mod Firsts
+pub mod Sizes
 pub mod Places
 pub mod Changes
 pub mod Fits
@@ -15,4 +16,3 @@ pub mod Runs
 pub mod Law
 pub mod Clients
 pub mod Wholes
-pub mod Sizes

@@ -1,32 +1,167 @@
 -- The rows of a shelf, by place.
-use Rattle.std.proofs.Common.{◌≡◌, ℕ, suc, ◌+◌, ◌*◌, ◌<◌, ◌≤◌, Bool, true, false, length, Some, None, vec_items, sym, ap, ◌∙◌, mul-le-mul_right, suc-mul, arith}
+use Rattle.std.proofs.Common.{◌≡◌, ℕ, suc, ◌+◌, ◌*◌, ◌^◌, ◌<◌, ◌≤◌, Bool, true, false, not, cond, eqb, ltb, List, length, get_or, count_by, take, drop, Some, None, Option, vec_items, vec_len, sym, refl, ap, ◌∙◌, subst, ⊎_elim, mul-le-mul_right, suc-mul, arith, rules}
 use Rattle.std.proofs.lemmas.List.FromFn.{length-map-range_with_len, get_or-map-range_with_len}
-use Rattle.shelf.specs.declared.shelf.Shelf.{Shelf}
-use Rattle.shelf.specs.Rows.{Row, row_at}
-use Rattle.shelf.specs.Contents.{contents, row_in, blank}
-use Rattle.shelf.specs.Calls.{first_with}
-use Rattle.shelf.proofs.Firsts.{first_here, first-none}
+use Rattle.std.proofs.lemmas.List.{get_or-take, length-take, length-take-le, take-take, places}
+use Rattle.std.proofs.lemmas.Bool.{and_parts, ltb-true, cases_eq, cases_lt, cond-true, cond-false, eq-eqb, ne_eqb}
+use Rattle.std.specs.Str.{bytes_eq}
+use Rattle.std.specs.Option.{SomeIff, is_some, is_none}
+use Rattle.shelf.specs.declared.shelf.Group.{Group}
+use Rattle.shelf.specs.declared.shelf.Shelf.TheInside.{Inside}
+use Rattle.shelf.specs.Rows.{Row, row_at, row_of, strip_at, holds, FitsStrip}
+use Rattle.shelf.specs.Contents.{Contents, row_in, blank}
+use Rattle.shelf.specs.Strips.{contents, Sound, next_number}
+use Rattle.shelf.specs.Stands.{StandsAt, GroupAt}
+use Rattle.shelf.specs.Calls.{first_with, is_numbered, has_head, place_of}
+use Rattle.shelf.specs.Sizes.{held}
+use Rattle.shelf.proofs.Firsts.{first_none, first_same, found_at}
+use Rattle.shelf.proofs.Sizes.{count_same}
 
 -- a strip ends where the next begins
 pub strip_end : (i n strip : ℕ) → i < n → i * strip + strip ≤ n * strip
 strip_end i n strip p = omega (arith, suc-mul i strip, mul-le-mul_right {m = suc i} {n = n} strip (omega arith))
 
+-- a strip that is lent has a strip's bytes
+pub length-strip : (a k : ℕ) (xs : List ℕ) → a + k ≤ length xs → length (take k (drop a xs)) ≡ k
+length-strip a k xs p = search (rules, places)
+
 -- the row that a place of the struct has
-abbrev pub row_standing : Shelf → ℕ → Row
+abbrev pub row_standing : Inside → ℕ → Row
 row_standing s j = row_at s.strip s.groups (vec_items s.bytes) j
 
-pub rows-length : (s : Shelf) → length (contents s).rows ≡ s.strips
-rows-length s = length-map-range_with_len (row_standing s) 0 s.strips
+-- the number after the next
+pub next_is : (o : Option ℕ) (n : ℕ) → n < 2 ^ 32 → SomeIff o (n + 1 < 2 ^ 32) (n + 1) → next_number o ≡ n + 1
+next_is None n l f = ⊎_elim (λ e. absurd (f e)) (λ e. omega arith) (cases_lt (n + 1) (2 ^ 32))
+next_is (Some k) n l f = f.1
 
-pub row_on : (s : Shelf) (j : ℕ) → j < s.strips → row_in (contents s) j ≡ row_standing s j
-row_on s j l = get_or-map-range_with_len (row_standing s) 0 s.strips j j (blank 0) l (omega arith)
+-- a row that has a head is not vacant
+pub head_held : (h : List ℕ) (r : Row) → has_head h r ≡ true → r.number ≡ 0 → ⊥
+head_held h r e z = omega (arith, ltb-true 0 r.number (and_parts (ltb 0 r.number) (bytes_eq r.head h) e).0)
 
--- a loop over the places looks for the first that passes a test
-pub first_on : (s : Shelf) (p : Row → Bool) (i : ℕ) → i < s.strips → ((j : ℕ) → j < i → p (row_standing s j) ≡ false) → p (row_standing s i) ≡ true → Some i ≡ first_with p (contents s).rows
-first_on s p i l before here =
-    sym
-    (first_here p (contents s).rows (blank 0) i (omega (arith, rows-length s)) (λ j q. ap p (row_on s j (omega arith)) ∙ before j q) (ap p (row_on s i l) ∙ here))
+module _ (s : Inside) (c : Contents) (is : contents s ≡ c) where
+  pub rows_length : length c.rows ≡ s.strips
+  rows_length = ap (λ (k : Contents). length k.rows) (sym is) ∙ length-map-range_with_len (row_standing s) 0 s.strips
 
-pub none_on : (s : Shelf) (p : Row → Bool) → ((j : ℕ) → j < s.strips → p (row_standing s j) ≡ false) → None ≡ first_with p (contents s).rows
-none_on s p none =
-    sym (first-none p (contents s).rows (blank 0) (λ j q. let l : j < s.strips = omega (arith, rows-length s) in ap p (row_on s j l) ∙ none j l))
+  pub row_on : (j : ℕ) → j < s.strips → row_in c j ≡ row_standing s j
+  row_on j l =
+      ap (λ (k : Contents). row_in k j) (sym is) ∙ get_or-map-range_with_len (row_standing s) 0 s.strips j j (blank 0) l (omega arith)
+
+  pub on_strip : (i : ℕ) → i < length c.rows → i < s.strips
+  on_strip i l = omega (arith, rows_length)
+
+  -- a strip is within the bytes
+  pub strip_room : (i : ℕ) → Sound s → i < length c.rows → i * s.strip + s.strip ≤ vec_len s.bytes
+  strip_room i o l = omega (arith, strip_end i s.strips s.strip (on_strip i l), o.room)
+
+  pub strip_small : (i : ℕ) → Sound s → i < length c.rows → i * s.strip + s.strip < 2 ^ 63
+  strip_small i o l = omega (arith, strip_room i o l, s.bytes.ok.1, s.bytes.small)
+
+  -- the groups and the rows, place by place
+  by_place : (t : Option Group → Bool) (p : Row → Bool) → Sound s → ((j : ℕ) → j < s.strips → t (get_or s.groups j None) ≡ p (row_standing s j)) → (length (take s.strips s.groups) ≡ length c.rows) × ((j : ℕ) → j < length (take s.strips s.groups) → t (get_or (take s.strips s.groups) j None) ≡ p (get_or c.rows j (blank 0)))
+  by_place t p o same =
+      let long : length (take s.strips s.groups) ≡ s.strips = length-take-le s.strips s.groups (omega (arith, o.few, o.places)) in
+      (long ∙ sym rows_length, λ j l. let k : j < s.strips = omega (arith, long) in ap t (get_or-take s.strips s.groups j None k) ∙ same j k ∙ ap p (sym (row_on j k)))
+
+  -- so a look-up among the groups finds the place that one among the rows does
+  first_on : (t : Option Group → Bool) (p : Row → Bool) → Sound s → ((j : ℕ) → j < s.strips → t (get_or s.groups j None) ≡ p (row_standing s j)) → first_with t (take s.strips s.groups) ≡ first_with p c.rows
+  first_on t p o same =
+      let b = by_place t p o same in first_same t p (take s.strips s.groups) c.rows None (blank 0) b.0 b.1
+
+  numbered_row : (g : ℕ) (b : List ℕ) (slot : Option Group) → (g ≡ 0 → ⊥) → holds g slot ≡ is_numbered g (row_of slot b)
+  numbered_row g b None n = sym (ne_eqb 0 g (λ e. n (sym e)))
+  numbered_row g b (Some x) n = refl
+
+  none_held : (strip : ℕ) (slot : Option Group) → FitsStrip strip slot → holds 0 slot ≡ false
+  none_held strip None f = refl
+  none_held strip (Some x) f = ne_eqb x.number 0 (λ e. omega (arith, f.0))
+
+  free_row : (strip : ℕ) (b : List ℕ) (slot : Option Group) → FitsStrip strip slot → is_none slot ≡ is_numbered 0 (row_of slot b)
+  free_row strip b None f = refl
+  free_row strip b (Some x) f = sym (ne_eqb x.number 0 (λ e. omega (arith, f.0)))
+
+  held_row : (strip : ℕ) (b : List ℕ) (slot : Option Group) → FitsStrip strip slot → is_some slot ≡ not (is_numbered 0 (row_of slot b))
+  held_row strip b None f = refl
+  held_row strip b (Some x) f = ap not (sym (ne_eqb x.number 0 (λ e. omega (arith, f.0))))
+
+  pub place_on : (g : ℕ) → Sound s → first_with (holds g) (take s.strips s.groups) ≡ place_of c g
+  place_on g o = ⊎_elim zeroth other (cases_eq g 0)
+    where
+      zeroth : g ≡ 0 → first_with (holds g) (take s.strips s.groups) ≡ place_of c g
+      zeroth e =
+          first_none (holds g) (take s.strips s.groups) None
+          (λ j l. let k : j < s.strips = omega (arith, length-take-le s.strips s.groups (omega (arith, o.few, o.places))) in ap (holds g) (get_or-take s.strips s.groups j None k) ∙ ap (λ (n : ℕ). holds n (get_or s.groups j None)) e ∙ none_held s.strip (get_or s.groups j None) (o.fits j))
+          ∙ sym (cond-true (eqb g 0) None (first_with (is_numbered g) c.rows) (eq-eqb g 0 e))
+
+      other : (g ≡ 0 → ⊥) → first_with (holds g) (take s.strips s.groups) ≡ place_of c g
+      other n =
+          first_on (holds g) (is_numbered g) o (λ j l. numbered_row g (strip_at s.strip (vec_items s.bytes) j) (get_or s.groups j None) n)
+          ∙ sym (cond-false (eqb g 0) None (first_with (is_numbered g) c.rows) (ne_eqb g 0 n))
+
+  -- the place that it finds is held for the group
+  pub numbered_at : (g i : ℕ) → Sound s → first_with (holds g) (take s.strips s.groups) ≡ Some i → (i < s.strips) × (holds g (get_or s.groups i None) ≡ true)
+  numbered_at g i o e =
+      let f = found_at (holds g) (take s.strips s.groups) None i e in
+      let l : i < s.strips = omega (arith, f.0, length-take-le s.strips s.groups (omega (arith, o.few, o.places))) in
+      (l, ap (holds g) (sym (get_or-take s.strips s.groups i None l)) ∙ f.1)
+
+  -- and so not vacant
+  number_held : (g : ℕ) (b : List ℕ) (slot : Option Group) → FitsStrip s.strip slot → holds g slot ≡ true → 1 ≤ (row_of slot b).number
+  number_held g b None f e = absurd (cc)
+  number_held g b (Some x) f e = f.0
+
+  pub not_vacant : (g i : ℕ) → Sound s → first_with (holds g) (take s.strips s.groups) ≡ Some i → (row_in c i).number ≡ 0 → ⊥
+  not_vacant g i o e z =
+      let at = numbered_at g i o e in
+      omega (arith, number_held g (strip_at s.strip (vec_items s.bytes) i) (get_or s.groups i None) (o.fits i) at.1, ap (λ (r : Row). r.number) (row_on i at.0))
+
+  pub free_on : Sound s → first_with is_none (take s.strips s.groups) ≡ first_with (is_numbered 0) c.rows
+  free_on o =
+      first_on is_none (is_numbered 0) o (λ j l. free_row s.strip (strip_at s.strip (vec_items s.bytes) j) (get_or s.groups j None) (o.fits j))
+
+  pub held_on : Sound s → count_by is_some (take s.strips s.groups) ≡ held c.rows
+  held_on o =
+      let b = by_place is_some (λ r. not (is_numbered 0 r)) o (λ j l. held_row s.strip (strip_at s.strip (vec_items s.bytes) j) (get_or s.groups j None) (o.fits j)) in
+      count_same (take s.strips s.groups) c.rows b.0 b.1
+
+  -- the group of a place stands there
+  stands : (i : ℕ) (g : Group) → Sound s → i < s.strips → get_or s.groups i None ≡ Some g → StandsAt c i g
+  stands i g o l e =
+      let f : FitsStrip s.strip (Some g) = subst (FitsStrip s.strip) e (o.fits i) in
+      let bytes : length (strip_at s.strip (vec_items s.bytes) i) ≡ s.strip = length-strip (i * s.strip) s.strip (vec_items s.bytes) (omega (arith, strip_end i s.strips s.strip l, o.room, s.bytes.ok.0)) in
+      let row : row_in c i ≡ row_of (Some g) (strip_at s.strip (vec_items s.bytes) i) = row_on i l ∙ ap (λ (x : Option Group). row_of x (strip_at s.strip (vec_items s.bytes) i)) e in
+      record {
+        place = omega (arith, rows_length);
+        few = omega (arith, rows_length, o.few);
+        held = f.0;
+        number = ap (λ (r : Row). r.number) row;
+        count = ap (λ (r : Row). r.count) row;
+        head = ap (λ (r : Row). length r.head) row ∙ length-take-le g.len (strip_at s.strip (vec_items s.bytes) i) (omega (arith, f.1, bytes));
+      }
+
+  -- a head is within its strip
+  head_inside : (b : List ℕ) (slot : Option Group) → length (row_of slot b).head ≤ length b
+  head_inside b None = omega arith
+  head_inside b (Some g) = omega (arith, length-take g.len b)
+
+  pub head_within : (i : ℕ) → Sound s → i < length c.rows → length (row_in c i).head ≤ s.strip
+  head_within i o l =
+      let bytes : length (strip_at s.strip (vec_items s.bytes) i) ≡ s.strip = length-strip (i * s.strip) s.strip (vec_items s.bytes) (omega (arith, strip_room i o l, s.bytes.ok.0)) in
+      omega (arith, ap (λ (r : Row). length r.head) (row_on i (on_strip i l)), head_inside (strip_at s.strip (vec_items s.bytes) i) (get_or s.groups i None), bytes)
+
+  pub group_at : (i : ℕ) (slot : Option Group) → Sound s → i < s.strips → get_or s.groups i None ≡ slot → GroupAt c i slot
+  group_at i None o l e =
+      ap (λ (r : Row). r.number) (row_on i l ∙ ap (λ (x : Option Group). row_of x (strip_at s.strip (vec_items s.bytes) i)) e)
+  group_at i (Some g) o l e = stands i g o l e
+
+  -- the head of the group that stands there
+  head_of_slot : (strip : ℕ) (bytes : List ℕ) (slot : Option Group) (g : Group) → 1 ≤ g.number → (row_of slot (take strip bytes)).number ≡ g.number → length (row_of slot (take strip bytes)).head ≡ g.len → FitsStrip strip slot → length (take strip bytes) ≡ strip → take g.len bytes ≡ (row_of slot (take strip bytes)).head
+  head_of_slot strip bytes None g p e h f k = absurd (omega arith)
+  head_of_slot strip bytes (Some x) g p e h f k =
+      let l : g.len ≡ x.len = omega (arith, h, length-take-le x.len (take strip bytes) (omega (arith, f.1))) in
+      ap (λ (n : ℕ). take n bytes) l ∙ sym (take-take x.len strip bytes f.1)
+
+  pub head_on : (i : ℕ) (g : Group) → Sound s → StandsAt c i g → take g.len (drop (i * s.strip) (vec_items s.bytes)) ≡ (row_in c i).head
+  head_on i g o a =
+      let row = row_on i (on_strip i a.place) in
+      let bytes : length (strip_at s.strip (vec_items s.bytes) i) ≡ s.strip = length-strip (i * s.strip) s.strip (vec_items s.bytes) (omega (arith, strip_room i o a.place, s.bytes.ok.0)) in
+      head_of_slot s.strip (drop (i * s.strip) (vec_items s.bytes)) (get_or s.groups i None) g a.held (ap (λ (r : Row). r.number) (sym row) ∙ a.number) (ap (λ (r : Row). length r.head) (sym row) ∙ a.head) (o.fits i) bytes
+      ∙ ap (λ (r : Row). r.head) (sym row)

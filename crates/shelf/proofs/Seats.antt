@@ -1,5 +1,5 @@
 -- The place that a head gets.
-use Rattle.std.proofs.Common.{◌≡◌, ℕ, ◌+◌, ◌<◌, ◌≤◌, Bool, true, false, cond, eqb, ltb, ◌⊎◌, List, length, Some, None, Ok, Err, Option, Result, sym, ap, ◌∙◌, subst, inl, inr, ⊎_elim, arith}
+use Rattle.std.proofs.Common.{◌≡◌, ℕ, ◌+◌, ◌<◌, ◌≤◌, Bool, true, false, cond, eqb, ltb, ◌⊎◌, List, length, Some, None, Ok, Err, Option, Result, refl, sym, ap, ◌∙◌, subst, inl, inr, ⊎_elim, arith}
 use Rattle.std.proofs.lemmas.Slice.Eq.{bytes_eq-Decides}
 use Rattle.std.proofs.lemmas.Bool.{and_parts, and_cases, both_ways, cases_Bool, cond-true, cond-false, eqb-true, eq-eqb, ne_eqb, ltb-true, lt-ltb}
 use Rattle.std.specs.Str.{bytes_eq}
@@ -7,14 +7,6 @@ use Rattle.wire.specs.declared.refusal.Fault.{Fault}
 use Rattle.shelf.specs.Contents.{Contents, blank, row_in, put, handed_out}
 use Rattle.shelf.specs.Calls.{refused, first_with, is_numbered, has_head, free_place, FreeAt, FindsFree, taking, seat, seat_for, fresh, recount, number_at, seated, number_of, seated_at, file_answer, file_after}
 use Rattle.shelf.proofs.Firsts.{Found, first_found}
-
--- by what the look-ups find
-pub seat_joins : (c : Contents) (h : List ℕ) (o : Option ℕ) → o ≡ first_with (has_head h) c.rows → seat c o ≡ seat_for c h
-seat_joins c h o e = ap (seat c) e
-
-pub seat_takes : (c : Contents) (h : List ℕ) (o : Option ℕ) → None ≡ first_with (has_head h) c.rows → o ≡ first_with (is_numbered 0) c.rows → taking c o ≡ seat_for c h
-unfolding free_place
-seat_takes c h o e f = ap (taking c) f ∙ ap (seat c) e
 
 -- the free place is one
 numbered-free : (c : Contents) (o : Option ℕ) → Found (is_numbered 0) c.rows (blank 0) o → FreeAt c o
@@ -73,19 +65,6 @@ seated-at c h i (Some k) f e =
 pub seat-is : (c : Contents) (h : List ℕ) (i : ℕ) → seat_for c h ≡ Ok i → Joins c h i ⊎ Takes c h i
 seat-is c h i e = seated-at c h i (first_with (has_head h) c.rows) (first_found (has_head h) c.rows (blank 0)) e
 
--- what a call has to know of it
-pub record Sits (c : Contents) (i : ℕ) : Type 0 where
-  pub place : i < length c.rows
-  pub number : (row_in c i).number ≡ 0 → c.next < 4294967296
-  pub count : 1 ≤ (row_in c i).number → (row_in c i).count < 4294967295
-
-pub seat_sits : (c : Contents) (h : List ℕ) (i : ℕ) → Ok i ≡ seat_for c h → Sits c i
-seat_sits c h i e =
-    ⊎_elim
-    (λ s. record { place = s.place; number = λ z. absurd (omega (arith, s.held)); count = λ z. s.room })
-    (λ s. record { place = s.place; number = λ z. s.number; count = λ z. absurd (omega (arith, s.vacant)) })
-    (seat-is c h i (sym e))
-
 -- what is done there
 module _ (c : Contents) (i : ℕ) (vacant : (row_in c i).number ≡ 0) where
   pub number_new : c.next ≡ number_at c i
@@ -101,14 +80,15 @@ module _ (c : Contents) (i : ℕ) (held : (row_in c i).number ≡ 0 → ⊥) whe
   pub seated-held : (h : List ℕ) (n : ℕ) → n ≡ (row_in c i).count + 1 → put c i (recount (row_in c i) n) ≡ seated c h i
   seated-held h n e = ap (λ (k : ℕ). put c i (recount (row_in c i) k)) e ∙ sym (cond-false _ _ _ (ne_eqb (row_in c i).number 0 held))
 
--- so the filing answers, and so the shelf is left; b is the head as it is looked up
-module _ (c : Contents) (from : Result (List ℕ) Fault) (h b : List ℕ) (made : from ≡ Ok h) (same : b ≡ h) where
-  pub filed_not : (e : Fault) → Err e ≡ seat_for c b → (Err e ≡ file_answer c from) × (c ≡ file_after c from)
-  filed_not e s =
-      let q : Err e ≡ seat_for c h = s ∙ ap (seat_for c) same in
-      (ap (number_of c) q ∙ ap (file_answer c) (sym made), ap (seated_at c h) q ∙ ap (file_after c) (sym made))
+-- so a filing of a head that no group has makes a new one, where there is a place and a number for it
+module _ (c : Contents) (h : List ℕ) (i : ℕ) (unlike : first_with (has_head h) c.rows ≡ None) (free : free_place c.rows ≡ Some i) where
+  free_at : FreeAt c (Some i)
+  free_at = subst (FreeAt c) free (finds_free c)
 
-  pub filed_there : (i g : ℕ) (t : Contents) → Ok i ≡ seat_for c b → g ≡ number_at c i → t ≡ seated c h i → (Ok g ≡ file_answer c from) × (t ≡ file_after c from)
-  filed_there i g t s n p =
-      let q : Ok i ≡ seat_for c h = s ∙ ap (seat_for c) same in
-      (ap (λ (k : ℕ). Ok k) n ∙ ap (number_of c) q ∙ ap (file_answer c) (sym made), p ∙ ap (seated_at c h) q ∙ ap (file_after c) (sym made))
+  pub anew_place : i < length c.rows
+  anew_place = free_at.0
+
+  pub filed_anew : c.next < 4294967296 → (Ok c.next ≡ file_answer c (Ok h)) × (handed_out (put c i (fresh c.strip c.next h)) ≡ file_after c (Ok h))
+  filed_anew l =
+      let there : Ok i ≡ seat_for c h = sym (ap (seat c) unlike ∙ ap (taking c) free ∙ cond-true _ _ _ (lt-ltb c.next 4294967296 l)) in
+      (ap (λ (k : ℕ). Ok k) (number_new c i free_at.1) ∙ ap (number_of c) there, seated_new c i free_at.1 h c.next refl ∙ ap (seated_at c h) there)

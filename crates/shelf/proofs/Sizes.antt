@@ -1,35 +1,32 @@
--- The loop that counts the groups.
-use Rattle.std.proofs.Common.{◌≡◌, ℕ, ◌+◌, ◌<◌, ◌≤◌, cond, drop, ap, ◌∙◌, arith}
-use Rattle.std.proofs.lemmas.List.{drop_more, drop_all}
-use Rattle.std.proofs.lemmas.Bool.{eq-eqb, ne_eqb, cond-true, cond-false}
-use Rattle.shelf.specs.declared.shelf.Shelf.{Shelf}
-use Rattle.shelf.specs.Contents.{contents, blank}
+-- The groups that are counted.
+use Rattle.std.proofs.Common.{◌≡◌, ℕ, suc, ◌+◌, ◌<◌, Bool, false, true, not, cond, List, [], ◌∷◌, length, get_or, count_by, Option, None, Some, refl, sym, ap, ◌∙◌, ⊎_elim, arith}
+use Rattle.std.proofs.lemmas.Bool.{cases_Bool}
+use Rattle.std.proofs.lemmas.List.Recursion.{is_count_by}
+use Rattle.std.specs.Option.{is_some}
+use Rattle.shelf.specs.declared.shelf.Group.{Group}
+use Rattle.shelf.specs.Rows.{Row}
+use Rattle.shelf.specs.Contents.{blank}
 use Rattle.shelf.specs.Calls.{is_numbered}
 use Rattle.shelf.specs.Sizes.{held}
-use Rattle.shelf.proofs.Places.{row_standing, rows-length, row_on}
 
--- so many groups are counted, and those of the places from `i` on are still to come
-abbrev pub Counting : Shelf → ℕ → ℕ → Type 0
-Counting s n i = (n + held (drop i (contents s).rows) ≡ held (contents s).rows) × (n ≤ i)
+abbrev groups : List (Option Group) → ℕ
+groups [] = 0
+groups (x ∷ xs) = cond (is_some x) (1 + groups xs) (groups xs)
 
-step : (s : Shelf) (i : ℕ) → i < s.strips → held (drop i (contents s).rows) ≡ cond (is_numbered 0 (row_standing s i)) 0 1 + held (drop (i + 1) (contents s).rows)
-step s i l =
-    ap held (drop_more (contents s).rows i (blank 0) (omega (arith, rows-length s)))
-    ∙ ap (λ r. cond (is_numbered 0 r) 0 1 + held (drop (i + 1) (contents s).rows)) (row_on s i l)
+one : (b : Bool) (c : Bool) (n : ℕ) → b ≡ not c → cond b (1 + n) n ≡ cond c 0 1 + n
+one true true n e = absurd (cc)
+one true false n e = refl
+one false true n e = omega arith
+one false false n e = absurd (cc)
 
-pub counted_group : (s : Shelf) (n i : ℕ) → i < s.strips → ((row_standing s i).number ≡ 0 → ⊥) → Counting s n i → Counting s (n + 1) (i + 1)
-counted_group s n i l some c =
-    let e = step s i l in
-    let one : ◌≡◌ {A = ℕ} (cond (is_numbered 0 (row_standing s i)) 0 1) 1 = cond-false (is_numbered 0 (row_standing s i)) 0 1 (ne_eqb (row_standing s i).number 0 some) in
-    (omega (arith, c.0), omega (arith, c.1))
+-- as many groups as rows that belong to one
+same_count : (xs : List (Option Group)) (rows : List Row) → length xs ≡ length rows → ((j : ℕ) → j < length xs → is_some (get_or xs j None) ≡ not (is_numbered 0 (get_or rows j (blank 0)))) → groups xs ≡ held rows
+same_count [] [] n same = refl
+same_count [] (r ∷ rs) n same = absurd (omega arith)
+same_count (x ∷ xs) [] n same = absurd (omega arith)
+same_count (x ∷ xs) (r ∷ rs) n same =
+    ap (λ (k : ℕ). cond (is_some x) (1 + k) k) (same_count xs rs (omega arith) (λ j l. same (suc j) (omega arith)))
+    ∙ one (is_some x) (is_numbered 0 r) (held rs) (same 0 (omega arith))
 
-pub passed-free : (s : Shelf) (n i : ℕ) → i < s.strips → (row_standing s i).number ≡ 0 → Counting s n i → Counting s n (i + 1)
-passed-free s n i l none c =
-    let e = step s i l in
-    let none_here : ◌≡◌ {A = ℕ} (cond (is_numbered 0 (row_standing s i)) 0 1) 0 = cond-true (is_numbered 0 (row_standing s i)) 0 1 (eq-eqb (row_standing s i).number 0 none) in
-    (omega (arith, c.0), omega (arith, c.1))
-
-pub all_counted : (s : Shelf) (n i : ℕ) → s.strips ≤ i → Counting s n i → n ≡ held (contents s).rows
-all_counted s n i l c =
-    let e : held (drop i (contents s).rows) ≡ 0 = ap held (drop_all i (contents s).rows (omega (arith, rows-length s))) in
-    omega (arith, c.0)
+pub count_same : (xs : List (Option Group)) (rows : List Row) → length xs ≡ length rows → ((j : ℕ) → j < length xs → is_some (get_or xs j None) ≡ not (is_numbered 0 (get_or rows j (blank 0)))) → count_by is_some xs ≡ held rows
+count_same xs rows n same = sym (is_count_by groups is_some refl (λ x ys. refl) xs) ∙ same_count xs rows n same

@@ -43,10 +43,10 @@ abbrev pub later : Option ℕ → Option ℕ
 later None = None
 later (Some i) = Some (i + 1)
 
--- The first place whose row passes a test.
-unfoldable pub first_with : (Row → Bool) → List Row → Option ℕ
+-- The first place that passes a test, as of a row.
+unfoldable pub first_with : {X : Type 0} → (X → Bool) → List X → Option ℕ
 first_with p [] = None
-first_with p (r ∷ rs) = cond (p r) (Some 0) (later (first_with p rs))
+first_with p (x ∷ xs) = cond (p x) (Some 0) (later (first_with p xs))
 
 abbrev pub is_numbered : ℕ → Row → Bool
 is_numbered g r = r.number == g

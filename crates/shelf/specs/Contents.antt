@@ -1,9 +1,6 @@
 -- What a shelf holds: all of it, every byte.
-use Rattle.std.specs.Prelude.{◌≡◌, ℕ, ◌+◌, ◌*◌, List, [], ◌++◌, map, drop, replicate, vec_items, slice_index_or, slice_set}
-use Rattle.std.specs.List.{range_with_len, flat_map}
-use Rattle.shelf.specs.declared.shelf.Group.{Group}
-use Rattle.shelf.specs.declared.shelf.Shelf.{Shelf}
-use Rattle.shelf.specs.Rows.{Row, row_at}
+use Rattle.std.specs.Prelude.{ℕ, ◌+◌, List, [], replicate, slice_index_or, slice_set}
+use Rattle.shelf.specs.Rows.{Row}
 
 -- The strip length, the number that the next new group gets, a row for each strip, and the bytes behind the last strip.
 pub record Contents : Type 0 where
@@ -11,17 +8,6 @@ pub record Contents : Type 0 where
   pub next : ℕ
   pub rows : List Row
   pub tail : List ℕ
-
-abbrev pub contents_of : ℕ → ℕ → ℕ → List Group → List ℕ → Contents
-contents_of strip strips next groups bytes =
-    record { strip = strip; next = next; rows = map (row_at strip groups bytes) (range_with_len 0 strips); tail = drop (strips * strip) bytes }
-
-abbrev pub contents : Shelf → Contents
-contents s = contents_of s.strip s.strips s.next s.groups (vec_items s.bytes)
-
--- No byte is left out: the shelf's bytes are those of the strips, head and rest of each, and those behind the last.
-abbrev pub EveryByte : Type 0
-EveryByte = (s : Shelf) → vec_items s.bytes ≡ flat_map (λ (r : Row). r.head ++ r.rest) (contents s).rows ++ (contents s).tail
 
 -- The row of a free strip: all its bytes are 0.
 abbrev pub blank : ℕ → Row

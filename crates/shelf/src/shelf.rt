@@ -1,6 +1,5 @@
 // The shelf's data. It stands apart from the calls, since what they promise speaks of this struct.
-ghost use Rattle.std.specs.Prelude.{◌≡◌, ℕ, ◌*◌, ◌≤◌, length, vec_len};
-ghost use Rattle.shelf.specs.Rows.{Within};
+use std::marker::Model;
 
 mod calls;
 mod changes;
@@ -10,8 +9,8 @@ mod opening;
 mod places;
 mod sizes;
 
-// A group of recordings with the same head: its number, 0 where the strip is free; how many filings have not been released;
-// and the length of the head, which is at the front of the strip.
+// A group of recordings with the same head: its number; how many filings have not been released; and the length of the
+// head, which is at the front of the strip.
 #[derive(Clone, Copy, PartialEq, Eq, Debug)]
 pub struct Group {
     number: u32,
@@ -19,17 +18,27 @@ pub struct Group {
     len: usize,
 }
 
-// The bytes are cut into strips of one length, one for each group. There are 64 groups at most.
+// The bytes are cut into strips of one length. There are 64 at most.
 #[derive(Drop)]
 pub struct Shelf {
     strip: usize,
     strips: usize,
-    // the number that the next new group gets; above those of a u32 when they are used up
-    next: u64,
-    groups: [Group; 64],
+    // the number that the next new group gets, until they are used up
+    next: Option<u32>,
+    // the group of each strip that is not free
+    groups: [Option<Group>; 64],
     bytes: Vec<u8>,
-    ghost places: { length groups ≡ 64 },
-    ghost few: { strips ≤ 64 },
-    ghost room: { strips * strip ≤ vec_len bytes },
-    ghost within: { Within strip groups },
+}
+
+// Clauses see what the shelf holds.
+impl Model for Shelf {
+    ghost use Rattle.shelf.specs.Contents.{Contents};
+
+    ghost Value = { Contents };
+
+    ghost use Rattle.shelf.specs.Strips.{contents, Sound};
+
+    ghost view = { contents };
+
+    ghost invariant = { Sound };
 }

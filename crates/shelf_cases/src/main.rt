@@ -14,7 +14,7 @@ fn serve(rt: &HostRuntime) -> anyhow::Result<()> {
             break;
         }
         match lines.request() {
-            Some(Request::Open(opening)) => desk = open(rt, opening)?,
+            Ok(Request::Open(opening)) => desk = open(rt, opening)?,
             request => {
                 answer(rt, &mut desk, request)?;
             }

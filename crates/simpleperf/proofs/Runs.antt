@@ -3,7 +3,6 @@ use Rattle.std.proofs.Common.{◌≡◌, ℕ, zero, suc, ◌-◌, ◌<◌, ◌�
 use Rattle.wire.specs.declared.refusal.Fault.{Fault}
 use Rattle.perf_data.specs.Texts.{first_fault}
 use Rattle.simpleperf.specs.Parse.{Got, before, then_run, run_of, run, while_read, readable}
-use Rattle.simpleperf.proofs.Items.{readable-more}
 
 fault-before : {V : Type 0} (v : V) (r : Result (List V) Fault) → first_fault (before v r) ≡ first_fault r
 fault-before v (Ok vs) = refl
@@ -56,29 +55,10 @@ module _ {V : Type 0} (item : List ℕ → Result (Got V) Fault) (some : (s : Li
   pub fault-none : (s : List ℕ) → length s ≡ 0 → first_fault (run item s) ≡ None
   fault-none s h = ap first_fault (end (length s) s h)
 
-  -- what a view of a run gives, item by item
-  read_step : (k j : ℕ) (s : List ℕ) (r : Result (Got V) Fault) → item s ≡ r → length s ≤ suc k → length s ≤ suc j → ((t : List ℕ) → length t ≤ k → length t ≤ j → readable item k t ≡ readable item j t) → while_read r (readable item k) ≡ while_read r (readable item j)
-  read_step k j s (Ok g) e h i more =
-      let l = some s g e in
-      ap (λ vs. g.value ∷ vs) (more g.rest (omega arith) (omega arith))
-  read_step k j s (Err f) e h i more = refl
-
+  -- no item is read where no byte is left
   stops : (s : List ℕ) (r : Result (Got V) Fault) (more : List ℕ → List V) → item s ≡ r → length s ≤ 0 → while_read r more ≡ []
   stops s (Ok g) more e h = let l = some s g e in absurd (omega arith)
   stops s (Err f) more e h = refl
-
-  read_enough : (k j : ℕ) (s : List ℕ) → length s ≤ k → length s ≤ j → readable item k s ≡ readable item j s
-  unfolding readable
-  read_enough zero zero s h i = refl
-  read_enough zero (suc j) s h i = sym (stops s (item s) (readable item j) refl h)
-  read_enough (suc k) zero s h i = stops s (item s) (readable item k) refl i
-  read_enough (suc k) (suc j) s h i = read_step k j s (item s) refl h i (read_enough k j)
-
-  pub view_more : (s : List ℕ) (g : Got V) → item s ≡ Ok g → readable item (length s) s ≡ g.value ∷ readable item (length g.rest) g.rest
-  view_more s g e =
-      let l = some s g e in
-      readable-more item (length s) s g (omega arith) e
-      ∙ ap (λ vs. g.value ∷ vs) (read_enough (length s - 1) (length g.rest) g.rest (omega arith) (omega arith))
 
   -- a run with no fault is what its view gives
   all_read : (k : ℕ) (s : List ℕ) (r : Result (Got V) Fault) → item s ≡ r → 0 < length s → ((t : List ℕ) → first_fault (run_of item k t) ≡ None → run_of item k t ≡ Ok (readable item k t)) → first_fault (run_of item (suc k) s) ≡ None → run_of item (suc k) s ≡ Ok (while_read r (readable item k))

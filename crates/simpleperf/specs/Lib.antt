@@ -1,4 +1,7 @@
 pub mod Parse
 pub mod Tables
+pub mod Types
+pub mod Got
+pub mod Lists
 pub mod Answers
 pub mod Numbered

@@ -1,27 +1,15 @@
 // What a record says of its file by the file's type, behind the symbols.
 ghost use Rattle.std.specs.Prelude.{◌≡◌};
-ghost use Rattle.simpleperf.specs.Answers.{number_got, got_of, info_of};
+ghost use Rattle.simpleperf.specs.Answers.{info_of};
+ghost use Rattle.simpleperf.specs.Got.{number_got, got_of};
 ghost use Rattle.simpleperf.specs.Tables.{u64_or_none, info_in};
+ghost use Rattle.simpleperf.specs.Types.{type_number};
 
-use crate::dex::{OffsetList, read_offsets};
-use crate::parts::read_u64;
-use wire::order::ByteOrder;
+use crate::dex::OffsetList;
+use crate::list::read_counted;
+use crate::reader::Reader;
+use crate::types::DsoType;
 use wire::refusal::Refusal;
-
-// The types of files.
-pub mod simpleperf_dso_type {
-    pub const DSO_KERNEL: u32 = 0;
-
-    pub const DSO_KERNEL_MODULE: u32 = 1;
-
-    pub const DSO_ELF_FILE: u32 = 2;
-    // a file that holds dex files, as a .vdex file
-    pub const DSO_DEX_FILE: u32 = 3;
-
-    pub const DSO_SYMBOL_MAP_FILE: u32 = 4;
-
-    pub const DSO_UNKNOWN_FILE: u32 = 5;
-}
 
 #[derive(Clone, Copy)]
 pub struct SimpleperfDexFileInfo<'a> {
@@ -40,56 +28,55 @@ pub struct SimpleperfKernelModuleInfo {
 
 #[derive(Clone, Copy)]
 pub enum SimpleperfTypeSpecificInfo<'a> {
-    // only with DSO_DEX_FILE
+    // only with DsoType::DexFile
     SimpleperfDexFileInfo(SimpleperfDexFileInfo<'a>),
-    // only with DSO_ELF_FILE
+    // only with DsoType::ElfFile
     ElfFile(SimpleperfElfFileInfo),
-    // only with DSO_KERNEL_MODULE
+    // only with DsoType::KernelModule
     KernelModule(SimpleperfKernelModuleInfo),
 }
 
 // A u64, or the largest where no byte is left.
-fn read_u64_or_none(order: ByteOrder, size: u32, bytes: &[u8]) -> Result<(u64, &[u8]), Refusal>
-    ensures { number_got result ≡ u64_or_none order size bytes.now }
+fn read_u64_or_none(reader: Reader, bytes: &[u8]) -> Result<(u64, &[u8]), Refusal>
+    ensures { number_got result ≡ u64_or_none reader.order reader.size bytes.now }
 {
     match bytes {
         [] => Ok((u64::MAX, bytes)),
-        _ => read_u64(order, size, bytes),
+        _ => reader.u64(bytes),
     }
 }
 
 // The tail of a record, for a file's type.
 pub(crate) fn read_info(
-    order: ByteOrder,
-    size: u32,
-    file_type: u32,
+    reader: Reader,
+    file_type: DsoType,
     bytes: &[u8],
 ) -> Result<(Option<SimpleperfTypeSpecificInfo<'_>>, &[u8]), Refusal>
-    ensures { got_of info_of result ≡ info_in order size file_type bytes.now }
+    ensures { got_of info_of result ≡ info_in reader.order reader.size (type_number file_type) bytes.now }
 {
     match file_type {
-        simpleperf_dso_type::DSO_DEX_FILE => {
-            let (dex_file_offset, rest) = read_offsets(order, size, bytes)?;
+        DsoType::DexFile => {
+            let (dex_file_offset, rest) = read_counted(reader, bytes)?;
             let info = SimpleperfDexFileInfo { dex_file_offset };
             Ok((
                 Some(SimpleperfTypeSpecificInfo::SimpleperfDexFileInfo(info)),
                 rest,
             ))
         }
-        simpleperf_dso_type::DSO_ELF_FILE => {
-            let (file_offset_of_min_vaddr, rest) = read_u64_or_none(order, size, bytes)?;
+        DsoType::ElfFile => {
+            let (file_offset_of_min_vaddr, rest) = read_u64_or_none(reader, bytes)?;
             let info = SimpleperfElfFileInfo {
                 file_offset_of_min_vaddr,
             };
             Ok((Some(SimpleperfTypeSpecificInfo::ElfFile(info)), rest))
         }
-        simpleperf_dso_type::DSO_KERNEL_MODULE => {
-            let (memory_offset_of_min_vaddr, rest) = read_u64_or_none(order, size, bytes)?;
+        DsoType::KernelModule => {
+            let (memory_offset_of_min_vaddr, rest) = read_u64_or_none(reader, bytes)?;
             let info = SimpleperfKernelModuleInfo {
                 memory_offset_of_min_vaddr,
             };
             Ok((Some(SimpleperfTypeSpecificInfo::KernelModule(info)), rest))
         }
-        _ => Ok((None, bytes)),
+        DsoType::Kernel | DsoType::SymbolMapFile | DsoType::UnknownFile => Ok((None, bytes)),
     }
 }

@@ -4,7 +4,9 @@
 pub mod dex;
 pub mod file;
 pub mod info;
-mod parts;
+pub mod list;
 pub mod questions;
+mod reader;
 pub mod symbol;
 pub mod tables;
+pub mod types;

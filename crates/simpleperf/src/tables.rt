@@ -1,93 +1,78 @@
 // The symbol tables of a recording: records of files, each with its length before it.
 ghost use Rattle.std.specs.Prelude.{◌≡◌, ◌≤◌, length};
 ghost use Rattle.perf_data.specs.Texts.{first_fault, fault_in};
-ghost use Rattle.simpleperf.specs.Answers.{got_of, file_of, files_of, tables_of, Gives};
+ghost use Rattle.simpleperf.specs.Answers.{tables_of};
 ghost use Rattle.simpleperf.specs.Parse.{run};
-ghost use Rattle.simpleperf.specs.Tables.{sized_file, symbol_tables};
-ghost use Rattle.std.specs.Iterator.{at_most};
+ghost use Rattle.simpleperf.specs.Tables.{File, sized_file, symbol_tables};
 
 use crate::file::{SimpleperfFileRecord, read_file};
-use crate::parts::offset;
+use crate::list::{ItemList, Listed};
+use crate::reader::Reader;
+use std::marker::PhantomData;
 use wire::order::{ByteOrder, tail};
 use wire::refusal::Refusal;
 
 pub(crate) const SIMPLEPERF_FILE: u32 = 128;
 
-// The record at the front of what is left of a section of so many bytes. What follows starts where the length says.
-fn read_sized(
-    order: ByteOrder,
-    size: u32,
-    bytes: &[u8],
-) -> Result<(SimpleperfFileRecord<'_>, &[u8]), Refusal>
-    ensures { got_of file_of result ≡ sized_file order size bytes.now }
-{
-    let Some(len) = order.u32(bytes) else {
-        return Err(Refusal::CutShort {
-            feature: SIMPLEPERF_FILE,
-            at: offset(size, bytes),
-        });
-    };
-    let Some((inside, after)) = tail(bytes, 4).split_at_checked(len as usize) else {
-        return Err(Refusal::RecordOutside {
-            at: offset(size, bytes),
-        });
-    };
-    let (file, _) = read_file(order, len, inside)?;
-    Ok((file, after))
-}
-
-// Files that have all been looked at, given one after the other.
 #[derive(Clone, Copy)]
-pub struct SymbolTables<'a> {
-    order: ByteOrder,
-    // of the whole section
-    size: u32,
-    rest: &'a [u8],
-}
+pub struct Files;
 
-impl<'a> Iterator for SymbolTables<'a> {
+pub type SymbolTables<'a> = ItemList<'a, Files>;
+
+// What follows a record starts where its length says.
+impl<'a> Listed<'a> for Files {
+    ghost use Rattle.simpleperf.specs.Answers.{file_of};
+
     type Item = SimpleperfFileRecord<'a>;
 
-    ghost next_gives = { λ s r t. Gives file_of (files_of s) r (files_of t) };
+    ghost Value = { File };
 
-    ghost remaining = { λ s. at_most (length s.rest.now) };
+    ghost value = { file_of };
 
-    fn next(&mut self) -> Option<SimpleperfFileRecord<'a>> {
-        match read_sized(self.order, self.size, self.rest) {
-            Ok((file, rest)) => {
-                self.rest = rest;
-                Some(file)
-            }
-            Err(_) => {
-                self.rest = &[];
-                None
-            }
-        }
+    ghost reading = { sized_file };
+
+    fn read(
+        reader: Reader,
+        bytes: &'a [u8],
+    ) -> Result<(SimpleperfFileRecord<'a>, &'a [u8]), Refusal> {
+        let order = reader.order;
+        let at = reader.offset(bytes);
+        let size = order.u32(bytes).ok_or(Refusal::CutShort {
+            feature: SIMPLEPERF_FILE,
+            at,
+        })?;
+        let (inside, after) = tail(bytes, 4)
+            .split_at_checked(size as usize)
+            .ok_or(Refusal::RecordOutside { at })?;
+        let (file, _) = read_file(Reader { order, size }, inside)?;
+        Ok((file, after))
     }
 }
 
 // Looks at all records of a section: the first fault, if there is one.
-fn check_files(order: ByteOrder, size: u32, section: &[u8]) -> Result<(), Refusal>
-    ensures { fault_in result ≡ first_fault (run (sized_file order size) section.now) }
+fn check_files(reader: Reader, section: &[u8]) -> Result<(), Refusal>
+    ensures { fault_in result ≡ first_fault (run (sized_file reader.order reader.size) section.now) }
 {
     let mut rest = section;
     while !rest.is_empty() {
-        let (_, after) = read_sized(order, size, rest)?;
+        let (_, after) = Files::read(reader, rest)?;
         rest = after;
     }
     Ok(())
 }
 
-// The files of a section, all of them looked at.
+// The files of a section, all of them looked at. There are at most as many as it has bytes.
 pub(crate) fn read_tables(order: ByteOrder, section: &[u8]) -> Result<SymbolTables<'_>, Refusal>
     requires { length section.now ≤ 16777216 }
     ensures { tables_of result ≡ symbol_tables order section.now }
 {
     let size = section.len() as u32;
-    check_files(order, size, section)?;
-    Ok(SymbolTables {
-        order,
-        size,
+    let reader = Reader { order, size };
+    check_files(reader, section)?;
+    Ok(ItemList {
+        reader,
+        left: size,
         rest: section,
+        of: PhantomData,
     })
 }

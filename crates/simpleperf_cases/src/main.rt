@@ -4,38 +4,25 @@
 
 mod single;
 
-use anyhow::anyhow;
+use anyhow::{Context, anyhow};
 use hexadecimal::{Hex, decode};
 use image::store::Store;
 use simpleperf::dex::OffsetList;
 use simpleperf::file::SimpleperfFileRecord;
 use simpleperf::info::SimpleperfTypeSpecificInfo;
 use simpleperf::questions::{symbol_table, symbol_tables};
-use simpleperf::symbol::SymbolList;
+use simpleperf::symbol::{SimpleperfSymbol, SymbolList};
 use simpleperf::tables::SymbolTables;
 use single::Single;
 use std::io::{BufRead, BufReader};
 use wire::order::ByteOrder;
-use wire::refusal::Refusal;
 
-fn print_refusal(rt: &HostRuntime, refusal: Refusal) -> anyhow::Result<()> {
-    let fault = refusal.fault();
-    let number = fault.number;
-    let layer = fault.layer as u32;
-    let feature = fault.feature;
-    let offset = fault.offset;
-    println!(rt; "refused {number} {layer} {feature} {offset}")?;
-    Ok(())
-}
-
-fn print_offsets(rt: &HostRuntime, offsets: OffsetList<'_>) -> anyhow::Result<()> {
-    let mut first = true;
+fn print_offsets(rt: &HostRuntime, mut offsets: OffsetList<'_>) -> anyhow::Result<()> {
+    if let Some(first) = offsets.next() {
+        print!(rt; "{first}")?;
+    }
     for offset in offsets {
-        if !first {
-            print!(rt; ",")?;
-        }
-        first = false;
-        print!(rt; "{offset}")?;
+        print!(rt; ",{offset}")?;
     }
     Ok(())
 }
@@ -62,27 +49,29 @@ fn print_info(
     Ok(())
 }
 
-fn print_symbols(rt: &HostRuntime, symbols: SymbolList<'_>) -> anyhow::Result<()> {
-    let mut none = true;
-    for symbol in symbols {
-        if !none {
-            print!(rt; ";")?;
-        }
-        none = false;
-        let vaddr = symbol.vaddr;
-        let len = symbol.len;
-        let name = Hex(symbol.name.as_bytes());
-        print!(rt; "{vaddr},{len},x{name}")?;
+fn print_symbol(rt: &HostRuntime, symbol: SimpleperfSymbol<'_>) -> anyhow::Result<()> {
+    let vaddr = symbol.vaddr;
+    let len = symbol.len;
+    let name = Hex(symbol.name.as_bytes());
+    print!(rt; "{vaddr},{len},x{name}")?;
+    Ok(())
+}
+
+fn print_symbols(rt: &HostRuntime, mut symbols: SymbolList<'_>) -> anyhow::Result<()> {
+    match symbols.next() {
+        None => print!(rt; "-")?,
+        Some(first) => print_symbol(rt, first)?,
     }
-    if none {
-        print!(rt; "-")?;
+    for symbol in symbols {
+        print!(rt; ";")?;
+        print_symbol(rt, symbol)?;
     }
     Ok(())
 }
 
 fn print_file(rt: &HostRuntime, file: SimpleperfFileRecord<'_>) -> anyhow::Result<()> {
     let path = Hex(file.path.as_bytes());
-    let file_type = file.file_type;
+    let file_type = u32::from(file.file_type);
     let lowest = file.min_vaddr;
     print!(rt; " x{path}:{file_type}:{lowest}:")?;
     print_info(rt, file.type_specific_msg)?;
@@ -90,16 +79,8 @@ fn print_file(rt: &HostRuntime, file: SimpleperfFileRecord<'_>) -> anyhow::Resul
     print_symbols(rt, file.symbol)
 }
 
-fn count(tables: SymbolTables<'_>) -> usize {
-    let mut n: usize = 0;
-    for _file in tables {
-        n = n.saturating_add(1);
-    }
-    n
-}
-
 fn print_tables(rt: &HostRuntime, tables: SymbolTables<'_>) -> anyhow::Result<()> {
-    let n = count(tables);
+    let n = tables.count();
     print!(rt; "records {n}")?;
     for file in tables {
         print_file(rt, file)?;
@@ -110,22 +91,13 @@ fn print_tables(rt: &HostRuntime, tables: SymbolTables<'_>) -> anyhow::Result<()
 
 // The records as they are asked for one by one: as many as the walk gives, and none past the last.
 fn agree<'a, S: Store<'a>>(store: &S, tables: SymbolTables<'_>) -> bool {
-    let mut k: usize = 0;
-    for file in tables {
+    for (k, file) in tables.enumerate() {
         match symbol_table(store, k) {
-            Ok(Some(same)) => {
-                if same.path.len() != file.path.len() || same.min_vaddr != file.min_vaddr {
-                    return false;
-                }
-            }
+            Ok(Some(same)) if same.path == file.path && same.min_vaddr == file.min_vaddr => (),
             _ => return false,
         }
-        k = k.saturating_add(1);
     }
-    match symbol_table(store, k) {
-        Ok(None) => true,
-        _ => false,
-    }
+    matches!(symbol_table(store, tables.count()), Ok(None))
 }
 
 fn print_answer<'a, S: Store<'a>>(rt: &HostRuntime, store: &S) -> anyhow::Result<()> {
@@ -134,28 +106,20 @@ fn print_answer<'a, S: Store<'a>>(rt: &HostRuntime, store: &S) -> anyhow::Result
             if !agree(store, tables) {
                 return Err(anyhow!("a record asked for is not that of the walk"));
             }
-            print_tables(rt, tables)
+            print_tables(rt, tables)?;
         }
-        Ok(None) => {
-            println!(rt; "absent")?;
-            Ok(())
-        }
-        Err(refusal) => print_refusal(rt, refusal),
+        Ok(None) => println!(rt; "absent")?,
+        Err(refusal) => println!(rt; "{refusal}")?,
     }
+    Ok(())
 }
 
 fn print_line(rt: &HostRuntime, line: &str) -> anyhow::Result<()> {
-    let Some((name, text)) = line.split_once(" x") else {
-        return Err(anyhow!("a line is a byte order, a space, x and hexadecimal"));
-    };
-    let Some(section) = decode(rt.alloc(), text.as_bytes())? else {
-        return Err(anyhow!("a line has no whole hexadecimal"));
-    };
-    let order = match name {
-        "little" => ByteOrder::Little,
-        "big" => ByteOrder::Big,
-        _ => return Err(anyhow!("a byte order is little or big")),
-    };
+    let (name, text) = line
+        .split_once(" x")
+        .context("a line is a byte order, a space, x and hexadecimal")?;
+    let section = decode(rt.alloc(), text.as_bytes())?.context("a line has no whole hexadecimal")?;
+    let order = name.parse::<ByteOrder>()?;
     let store = Single {
         order,
         section: &section,
@@ -163,13 +127,9 @@ fn print_line(rt: &HostRuntime, line: &str) -> anyhow::Result<()> {
     print_answer(rt, &store)
 }
 
-fn print_lines(rt: &HostRuntime) -> anyhow::Result<()> {
+fn main(rt: HostRuntime) -> anyhow::Result<()> {
     for line in BufReader::new(rt.alloc(), rt.stdin())?.lines(rt.alloc()) {
-        print_line(rt, line?.as_str())?;
+        print_line(&rt, line?.as_str())?;
     }
     Ok(())
-}
-
-fn main(rt: HostRuntime) -> anyhow::Result<()> {
-    print_lines(&rt)
 }

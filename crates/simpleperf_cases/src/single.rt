@@ -20,10 +20,6 @@ impl<'a> Store<'a> for Single<'a> {
     }
 
     fn section(&self, number: u32) -> Option<&'a [u8]> {
-        if number == 128 && self.section.len() <= 16777216 {
-            Some(self.section)
-        } else {
-            None
-        }
+        (number == 128 && self.section.len() <= 16777216).then_some(self.section)
     }
 }

@@ -1,8 +1,21 @@
 -- The place of a row, from its neighbours.
-use Rattle.std.proofs.Common.{◌≡◌, ℕ, zero, suc, ◌-◌, ◌<◌, ◌≤◌, List, [], ◌∷◌, length, get_or, Ok, Err, Ordering, Less, Equal, Greater, sym, refl, ap, ◌∙◌, ⊎_elim, arith}
+use Rattle.std.proofs.Common.{◌≡◌, ℕ, zero, suc, ◌-◌, ◌<◌, ◌≤◌, List, [], ◌∷◌, length, get_or, Ok, Err, Ordering, Less, Equal, Greater, Result, sym, refl, ap, ◌∙◌, ⊎_elim, zero-le, true, true≢false, arith}
 use Rattle.std.proofs.lemmas.Bool.{cases_lt}
+use Rattle.std.specs.Ordering.{is_lt, ordering_index}
+use Rattle.std.specs.List.Sorted.{IsNonDecreasingBy, IsBinarySearchResult, IsSearchInRange}
 use Rattle.table.specs.Order.{Order}
-use Rattle.table.specs.Table.{choose, next, Before, Rising, placed}
+use Rattle.table.specs.Table.{choose, next, Before, Rising, placed, Within}
+
+apart : ◌≡◌ {A = Ordering} Equal Less → ⊥
+apart e = let z : ◌≡◌ {A = ℕ} 1 0 = ap ordering_index e in absurd (omega arith)
+
+apart' : ◌≡◌ {A = Ordering} Greater Less → ⊥
+apart' e = let z : ◌≡◌ {A = ℕ} 2 0 = ap ordering_index e in absurd (omega arith)
+
+pub is_less : (k : Ordering) → is_lt k ≡ true → k ≡ Less
+is_less Less e = refl
+is_less Equal e = absurd (true≢false (sym e))
+is_less Greater e = absurd (true≢false (sym e))
 
 module _ {K R : Type 0} (o : Order K) (key : R → K) where
   -- two rows compared by their keys
@@ -36,13 +49,6 @@ module _ {K R : Type 0} (o : Order K) (key : R → K) where
       ∙ ap next (placed_err xs r i d (omega arith) (λ k m. h (suc k) (omega arith)) (λ m. e (omega arith)))
 
   module _ (rows : List R) (r d : R) (i : ℕ) (up : Rising o key rows) where
-    -- the row i has the key
-    pub place_at : i < length rows → Equal ≡ by (get_or rows i d) r → Ok i ≡ placed o key rows r
-    place_at within e =
-        sym (placed_ok rows r i d within
-        (λ k h. ap (λ w. o.cmp (key (get_or rows k d)) w) (sym (o.equal (key (get_or rows i d)) (key r) (sym e))) ∙ rising-at rows k i d up h within)
-        (sym e))
-
     -- the row before i is less, and the row i is greater, where there are such rows
     pub place_between : i ≤ length rows → (0 < i → Less ≡ by (get_or rows (i - 1) d) r) → (i < length rows → Greater ≡ by (get_or rows i d) r) → Err i ≡ placed o key rows r
     place_between within below above =
@@ -55,3 +61,33 @@ module _ {K R : Type 0} (o : Order K) (key : R → K) where
         (λ (l : i - 1 ≤ k). let q : k ≡ i - 1 = omega arith in ap (λ j. by (get_or rows j d) r) q ∙ sym (below some))
         (cases_lt k (i - 1)))
         (λ h. sym (above h)))
+
+  module _ (rows : List R) (r d : R) (up : Rising o key rows) where
+    -- of two rows in order, the first compares with a third as less, or as the second does
+    ranks : (a b : R) → by a b ≡ Less → (j k : Ordering) → by a r ≡ j → by b r ≡ k → ordering_index j ≤ ordering_index k
+    ranks a b l Less k e f = omega arith
+    ranks a b l Equal Less e f = absurd (apart (sym e ∙ o.trans (key a) (key b) (key r) l f))
+    ranks a b l Equal Equal e f = omega arith
+    ranks a b l Equal Greater e f = omega arith
+    ranks a b l Greater Less e f = absurd (apart' (sym e ∙ o.trans (key a) (key b) (key r) l f))
+    ranks a b l Greater Equal e f = absurd (apart' (sym e ∙ ap (λ w. o.cmp (key a) w) (sym (o.equal (key b) (key r) f)) ∙ l))
+    ranks a b l Greater Greater e f = omega arith
+
+    rise : IsNonDecreasingBy (λ y. ordering_index (by y r)) rows
+    rise i j e h m =
+        ⊎_elim
+        (λ (l : i < j). ranks (get_or rows i e) (get_or rows j e) (rising-at rows i j e up l m) _ _ refl refl)
+        (λ (l : j ≤ i). let q : i ≡ j = omega arith in let n : ordering_index (by (get_or rows i e) r) ≡ ordering_index (by (get_or rows j e) r) = ap (λ k. ordering_index (by (get_or rows k e) r)) q in omega arith)
+        (cases_lt i j)
+
+    -- what a binary search answers is the place
+    pub searched : (p : Result ℕ ℕ) → IsSearchInRange p (length rows) → IsBinarySearchResult (λ y. by y r) rows p → p ≡ placed o key rows r
+    searched (Ok k) within is = sym (placed_ok rows r k d within (λ j h. ap (λ w. o.cmp (key (get_or rows j d)) w) (sym (o.equal (key (get_or rows k d)) (key r) (is d))) ∙ rising-at rows j k d up h within) (is d))
+    searched (Err k) within is =
+        let split = is rise in
+        sym (placed_err rows r k d within (λ j h. split.0 j d zero-le h) (λ h. split.1 k d (omega arith) h))
+
+-- a place within the rows
+pub within_range : (p : Result ℕ ℕ) (n : ℕ) → IsSearchInRange p n → Within p n
+within_range (Ok i) n h = h
+within_range (Err i) n h = h

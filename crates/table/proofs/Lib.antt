@@ -1,5 +1,3 @@
-pub mod Clamped
-pub mod Filling
 pub mod Shifts
 pub mod Puts
 pub mod Halves

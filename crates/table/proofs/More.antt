@@ -1,14 +1,13 @@
 -- One more row in the rows of a table.
-use Rattle.std.proofs.Common.{◌≡◌, ℕ, ◌+◌, ◌-◌, ◌<◌, ◌≤◌, min, List, [], ◌∷◌, ◌++◌, length, take, drop, set, Ok, Err, Result, sym, ap, ◌∙◌, subst, arith}
+use Rattle.std.proofs.Common.{◌≡◌, ℕ, ◌+◌, ◌-◌, ◌<◌, ◌≤◌, min, List, [], ◌∷◌, ◌++◌, length, take, drop, set, Some, None, Ok, Err, Option, Result, sym, ap, ◌∙◌, subst, arith}
 use Rattle.std.specs.List as holes
 use Rattle.std.proofs.lemmas.List.{take_at, take-append-le, drop_at, drop-append-le, drop-drop, drop-replicate, set-append_left, length-set, length-drop, append_assoc}
 use Rattle.std.proofs.lemmas.List.Edits.{length-insert}
 use Rattle.table.specs.Order.{Order}
 use Rattle.table.specs.Rows.{blank, blanks}
 use Rattle.table.specs.Table.{Rising, tabled, placed}
-use Rattle.table.specs.Fills.{Filled}
+use Rattle.table.specs.Fills.{Holds}
 use Rattle.table.specs.declared.row.Row.{Row}
-use Rattle.table.specs.declared.fill.Fill.TheVariants.{Used, Over}
 use Rattle.table.proofs.Puts.{put-at, put_between}
 use Rattle.table.proofs.Stand.{rises, tabled-more, grows}
 
@@ -19,25 +18,34 @@ module _ {K : Type 0} (o : Order K) (key : Row → K) (given rows : List Row) (r
   abbrev new : List Row
   new = tabled o key (given ++ r ∷ [])
 
-  -- once over, always over
-  pub still_over : Filled o key given Over rows → Filled o key (given ++ r ∷ []) Over rows
-  still_over h = let l = grows o key given (r ∷ []) in (omega arith, h.1)
+  -- what rows hold before the row is given, and then
+  abbrev Before : Option ℕ → Type 0
+  Before used = Holds old used rows
 
-  module _ (n used : ℕ) (fill : Filled o key given (Used n) rows) (least : used ≡ min (length rows) n) where
+  abbrev After : Option ℕ → List Row → Type 0
+  After used after = Holds new used after
+
+  -- once over, always over
+  pub still_over : (used : Option ℕ) → used ≡ None → Before used → After used rows
+  still_over used e =
+      subst (λ u. Before u → After u rows) (sym e)
+      (λ h. let l = grows o key given (r ∷ []) in (omega arith, h.1))
+
+  module _ (n used : ℕ) (fill : Before (Some n)) (least : used ≡ min (length rows) n) where
     whole : used ≡ length old
     whole = let e = fill.0 in let l = fill.1 in omega arith
 
     after_old : rows ≡ old ++ blanks (length rows - used)
     after_old = let e : length rows - n ≡ length rows - used = let l = fill.1 in omega arith in fill.2 ∙ ap (λ k. old ++ blanks k) e
 
-    front : take (used - 0) rows ≡ old
-    front = let e : length old ≡ used - 0 = let w = whole in omega arith in ap (take (used - 0)) after_old ∙ take_at old (blanks (length rows - used)) (used - 0) e
+    front : take used rows ≡ old
+    front = ap (take used) after_old ∙ take_at old (blanks (length rows - used)) used (sym whole)
 
-    at : (p : Result ℕ ℕ) → (Rising o key (take (used - 0) rows) → p ≡ placed o key (take (used - 0) rows) r) → p ≡ placed o key old r
+    at : (p : Result ℕ ℕ) → (Rising o key (take used rows) → p ≡ placed o key (take used rows) r) → p ≡ placed o key old r
     at p is = is (subst (Rising o key) (sym front) (rises o key given)) ∙ ap (λ xs. placed o key xs r) front
 
     -- over the row i, which has its key
-    pub over_same : (i : ℕ) → (Rising o key (take (used - 0) rows) → Ok i ≡ placed o key (take (used - 0) rows) r) → (after : List Row) → after ≡ set rows i r → Filled o key (given ++ r ∷ []) (Used used) after
+    pub over_same : (i : ℕ) → (Rising o key (take used rows) → Ok i ≡ placed o key (take used rows) r) → (after : List Row) → after ≡ set rows i r → After (Some used) after
     over_same i is after after_is =
         let put = put-at o key old r i (at (Ok i) is) in
         let e : new ≡ set old i r = tabled-more o key given r ∙ put.1 in
@@ -51,7 +59,7 @@ module _ {K : Type 0} (o : Order K) (key : Row → K) (given rows : List Row) (r
         )
 
     -- between the rows i - 1 and i
-    module _ (i : ℕ) (is : Rising o key (take (used - 0) rows) → Err i ≡ placed o key (take (used - 0) rows) r) where
+    module _ (i : ℕ) (is : Rising o key (take used rows) → Err i ≡ placed o key (take used rows) r) where
       within : i ≤ length old
       within = (put_between o key old r i (at (Err i) is)).0
 
@@ -62,10 +70,10 @@ module _ {K : Type 0} (o : Order K) (key : Row → K) (given rows : List Row) (r
       one_more = let l = ap length new_is ∙ length-insert old i r within in let w = whole in omega arith
 
       -- there is no row for it
-      pub one_too_many : used ≡ length rows → (after : List Row) → length after ≡ length rows → after ≡ blanks (length rows) → Filled o key (given ++ r ∷ []) Over after
+      pub one_too_many : used ≡ length rows → (after : List Row) → length after ≡ length rows → after ≡ blanks (length rows) → After None after
       one_too_many full after same blank-is = let l = one_more in (omega arith, blank-is ∙ ap blanks (sym same))
 
-      pub put-more : used < length rows → (after : List Row) → length after ≡ length rows → after ≡ take i rows ++ (r ∷ (take (used - i) (drop i rows) ++ drop (used + 1) rows)) → Filled o key (given ++ r ∷ []) (Used (used + 1)) after
+      pub put-more : used < length rows → (after : List Row) → length after ≡ length rows → after ≡ take i rows ++ (r ∷ (take (used - i) (drop i rows) ++ drop (used + 1) rows)) → After (Some (used + 1)) after
       put-more room after same after_is =
           let l = one_more in
           let w = whole in

@@ -5,7 +5,6 @@ use Rattle.table.specs.Rows.{blanks}
 use Rattle.table.specs.Table.{tabled}
 use Rattle.table.specs.declared.row.Row.{Row}
 use Rattle.table.specs.declared.fill.Fill.{Fill}
-use Rattle.table.specs.declared.fill.Fill.TheVariants.{Used, Over}
 
 -- The number of rows that a table uses, of n in all: none where they are too few.
 abbrev pub fits : ℕ → List Row → Option ℕ
@@ -15,15 +14,16 @@ fits n table = cond (nat_le (length table) n) (Some (length table)) None
 abbrev pub laid : ℕ → List Row → List Row
 laid n table = cond (nat_le (length table) n) (table ++ blanks (n - length table)) (blanks n)
 
-abbrev pub used_of : Fill → Option ℕ
-used_of (Used n) = Some n
-used_of Over = None
+-- Rows hold a table as far as it fits, and how many of them are used says whether it does.
+abbrev pub Holds : List Row → Option ℕ → List Row → Type 0
+Holds table (Some n) rows = (n ≡ length table) × (n ≤ length rows) × (rows ≡ table ++ blanks (length rows - n))
+Holds table None rows = (length rows < length table) × (rows ≡ blanks (length rows))
 
--- Rows hold a table as far as it fits, and a fill says whether it does.
-abbrev pub Holds : List Row → Fill → List Row → Type 0
-Holds table (Used n) rows = (n ≡ length table) × (n ≤ length rows) × (rows ≡ table ++ blanks (length rows - n))
-Holds table Over rows = (length rows < length table) × (rows ≡ blanks (length rows))
+-- A fill is what comes of inserting the rows `given`, one after another, into as many blank rows: `key` gives a row's key by
+-- the fill's kind, and `o` is the order of the keys.
+abbrev pub Filled : {K X : Type 0} → Order X → (K → Row → X) → List Row → Fill K → Type 0
+Filled o key given fill = Holds (tabled o (key fill.kind) given) fill.used fill.rows.now
 
--- A fill and its rows are what comes of inserting the rows `given`, one after another, into as many blank rows.
-abbrev pub Filled : {K : Type 0} → Order K → (Row → K) → List Row → Fill → List Row → Type 0
-Filled o key given fill rows = Holds (tabled o key given) fill rows
+-- Two states of one fill: the kind is the same, and so are the rows that it stands in.
+abbrev pub IsSameFill : {K : Type 0} → Fill K → Fill K → Type 0
+IsSameFill a b = (a.kind ≡ b.kind) × (a.rows.ghost_name ≡ b.rows.ghost_name) × (length a.rows.now ≡ length b.rows.now)

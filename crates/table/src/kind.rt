@@ -55,3 +55,16 @@ impl Kind for Texts<'_> {
         x.cmp(&y)
     }
 }
+
+// What is lent has the keys of what it is lent from.
+impl<K: Kind> Kind for &K {
+    ghost Key = { K.Key };
+
+    ghost order = { K.order };
+
+    ghost key = { λ kind row. K.key kind.now row };
+
+    fn compare(&self, a: &Row, b: &Row) -> Ordering {
+        K::compare(self, a, b)
+    }
+}

@@ -17,10 +17,8 @@ pub struct Row {
 fn part(section: &[u8], at: u32, len: u32) -> &[u8]
     ensures { result.now ≡ part_of section.now «at» len }
 {
-    let from = section.len().min(at as usize);
-    let rest = &section[from..];
-    let end = rest.len().min(len as usize);
-    &rest[0..end]
+    let rest = section.get(at as usize..).unwrap_or(&[]);
+    rest.get(..len as usize).unwrap_or(rest)
 }
 
 impl Row {
@@ -50,7 +48,5 @@ impl Row {
 pub fn blank_all(rows: &mut [Row])
     ensures { rows.new ≡ blanks (length rows.old) }
 {
-    for row in rows.iter_mut() {
-        *row = Row::BLANK;
-    }
+    rows.fill(Row::BLANK);
 }

@@ -11,9 +11,9 @@ pub fn tabulate<K: Kind>(kind: &K, rows: &mut [Row], given: &[Row]) -> Option<us
     ensures count { result ≡ fits (length rows.old) (tabled K.order (K.key kind.now) given.now) }
     ensures table { rows.new ≡ laid (length rows.old) (tabled K.order (K.key kind.now) given.now) }
 {
-    let mut fill = Fill::start(rows);
+    let mut fill = Fill::start(kind, rows);
     for row in given {
-        fill = fill.add(kind, rows, *row);
+        fill.add(*row);
     }
     fill.finish()
 }

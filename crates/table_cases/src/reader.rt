@@ -29,14 +29,14 @@ pub fn read(rows: &mut [Row], section: &[u8]) -> Result<usize, Refused>
     ensures is { result ≡ answer (length rows.old) section.now }
     ensures after { rows.new ≡ left (length rows.old) section.now }
 {
-    let mut fill = Fill::start(rows);
+    let mut fill = Fill::start(Numbers, rows);
     for at in 0..section.len() {
         let b = section[at];
         if b == 255 {
             blank_all(rows);
             return Err(Refused::Fault { at });
         }
-        fill = fill.add(&Numbers, rows, item(b));
+        fill.add(item(b));
     }
     fill.finish().ok_or(Refused::TooFewRows)
 }

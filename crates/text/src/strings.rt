@@ -43,12 +43,10 @@ impl TextFault {
 pub fn before_nul(bytes: &[u8]) -> &[u8]
     ensures { result.now ≡ before_nul bytes.now }
 {
-    for (i, b) in bytes.iter().enumerate() {
-        if *b == 0 {
-            return &bytes[0..i];
-        }
+    match bytes.iter().position(|b| *b == 0) {
+        Some(nul) => &bytes[..nul],
+        None => bytes,
     }
-    bytes
 }
 
 // Reads the text at the front of a section, and answers it with the bytes after the full length. The text is cut at its

@@ -1,6 +1,10 @@
 // Numbers of 16, 32 and 64 bits in either byte order.
-ghost use Rattle.std.specs.Prelude.{◌≡◌, take, drop, IfSome};
-ghost use Rattle.wire.specs.Numbers.{number, bytes_of};
+ghost use Rattle.std.specs.Prelude.{◌≡◌, ◌<◌, ◌≤◌, length, take, drop, IfSome, MatchOption, Some};
+ghost use Rattle.wire.specs.Numbers.{number, rising_order, bytes_of};
+
+use std::error::Error;
+use std::fmt;
+use std::str::FromStr;
 
 #[derive(Clone, Copy, PartialEq, Eq, Debug)]
 pub enum ByteOrder {
@@ -8,55 +12,90 @@ pub enum ByteOrder {
     Big,
 }
 
+// A text that names no byte order.
+#[derive(Clone, Copy, PartialEq, Eq, Debug)]
+pub struct UnknownOrder;
+
+impl fmt::Display for ByteOrder {
+    ghost use Rattle.wire.specs.Shown.{order_text};
+
+    ghost output = { λ o. Some (order_text o) };
+
+    fn fmt<W: fmt::Write>(&self, f: &mut fmt::Formatter<W>) -> fmt::Result {
+        f.write_str(match self {
+            ByteOrder::Little => "little",
+            ByteOrder::Big => "big",
+        })
+    }
+}
+
+impl FromStr for ByteOrder {
+    type Err = UnknownOrder;
+
+    ghost use Rattle.wire.specs.Shown.{ReadsOrder};
+
+    ghost from_str_gives = { ReadsOrder };
+
+    fn from_str(s: &str) -> Result<ByteOrder, UnknownOrder> {
+        match s {
+            "little" => Ok(ByteOrder::Little),
+            "big" => Ok(ByteOrder::Big),
+            _ => Err(UnknownOrder),
+        }
+    }
+}
+
+impl fmt::Display for UnknownOrder {
+    fn fmt<W: fmt::Write>(&self, f: &mut fmt::Formatter<W>) -> fmt::Result {
+        f.write_str("a byte order is little or big")
+    }
+}
+
+impl Error for UnknownOrder {}
+
 // The bytes from an offset on; none where that is past the end.
 pub fn tail(s: &[u8], at: usize) -> &[u8]
     ensures { result.now ≡ drop at s.now }
 {
-    if at < s.len() { &s[at..] } else { &[] }
+    s.get(at..).unwrap_or(&[])
 }
 
 impl ByteOrder {
+    // The first bytes, as many as a number has, the lowest of it first.
+    fn lowest_first<const N: usize>(self, s: &[u8]) -> Option<[u8; N]>
+        ensures { MatchOption result (length s.now < N) (λ b. (N ≤ length s.now) × (b ≡ rising_order self (take N s.now))) }
+    {
+        let mut bytes = *s.first_chunk::<N>()?;
+        match self {
+            ByteOrder::Little => (),
+            ByteOrder::Big => bytes.reverse(),
+        }
+        Some(bytes)
+    }
+
     // The number that the first two bytes are, if there are as many; and so for four and for eight. Its own bytes, in the
     // same order, are those two again: no other two bytes give that number.
     pub fn u16(self, s: &[u8]) -> Option<u16>
         ensures is { result ≡ number self 2 s.now }
         ensures bytes { IfSome result (λ n. bytes_of self 2 n ≡ take 2 s.now) }
     {
-        if s.len() < 2 {
-            return None;
-        }
-        let bytes = [s[0], s[1]];
-        Some(match self {
-            ByteOrder::Little => u16::from_le_bytes(bytes),
-            ByteOrder::Big => u16::from_be_bytes(bytes),
-        })
+        let bytes = self.lowest_first::<2>(s)?;
+        Some(u16::from_le_bytes(bytes))
     }
 
     pub fn u32(self, s: &[u8]) -> Option<u32>
         ensures is { result ≡ number self 4 s.now }
         ensures bytes { IfSome result (λ n. bytes_of self 4 n ≡ take 4 s.now) }
     {
-        if s.len() < 4 {
-            return None;
-        }
-        let bytes = [s[0], s[1], s[2], s[3]];
-        Some(match self {
-            ByteOrder::Little => u32::from_le_bytes(bytes),
-            ByteOrder::Big => u32::from_be_bytes(bytes),
-        })
+        let bytes = self.lowest_first::<4>(s)?;
+        Some(u32::from_le_bytes(bytes))
     }
 
     pub fn u64(self, s: &[u8]) -> Option<u64>
         ensures is { result ≡ number self 8 s.now }
         ensures bytes { IfSome result (λ n. bytes_of self 8 n ≡ take 8 s.now) }
     {
-        if s.len() < 8 {
-            return None;
-        }
-        let bytes = [s[0], s[1], s[2], s[3], s[4], s[5], s[6], s[7]];
-        Some(match self {
-            ByteOrder::Little => u64::from_le_bytes(bytes),
-            ByteOrder::Big => u64::from_be_bytes(bytes),
-        })
+        let bytes = self.lowest_first::<8>(s)?;
+        Some(u64::from_le_bytes(bytes))
     }
 }

@@ -1,9 +1,16 @@
 // Why a call is turned down. Every case has a number, and the place of what failed: the layer that it lies in, the
 // feature that it belongs to, and its offset within the bytes of that layer. The definition `fault_of` gives all four.
-ghost use Rattle.std.specs.Prelude.{◌≡◌};
-ghost use Rattle.wire.specs.Faults.{image_fault, section_fault, symbol_fault, state_fault, fault_of};
+ghost use Rattle.std.specs.Prelude.{◌≡◌, Some};
+ghost use Rattle.wire.specs.Faults.{fault, fault_of};
 
+use std::error::Error;
 use std::fmt;
+
+// The number of a feature where none is meant: one above the last that an image can have.
+pub const NO_FEATURE: u32 = 256;
+
+// The feature that symbol records are of.
+const SYMBOLS: u32 = 128;
 
 // What an offset counts from.
 #[derive(Clone, Copy, PartialEq, Eq, Debug)]
@@ -22,12 +29,12 @@ pub enum Layer {
 pub struct Fault {
     pub number: u32,
     pub layer: Layer,
-    // 256 where no feature is meant
+    // or NO_FEATURE
     pub feature: u32,
     pub offset: u32,
 }
 
-#[derive(Clone, Copy)]
+#[derive(Clone, Copy, PartialEq, Eq, Debug)]
 pub enum Refusal {
     // 1: an image shorter than the fixed front of its kind
     ImageTooShort,
@@ -87,47 +94,16 @@ pub enum Refusal {
     BadOpening,
 }
 
-fn image(number: u32, offset: u32) -> Fault
-    ensures { result ≡ image_fault number offset }
-{
-    Fault {
-        number,
-        layer: Layer::Image,
-        feature: 256,
-        offset,
-    }
-}
-
-fn section(number: u32, feature: u32, offset: u32) -> Fault
-    ensures { result ≡ section_fault number feature offset }
-{
-    Fault {
-        number,
-        layer: Layer::Section,
-        feature,
-        offset,
-    }
-}
-
-fn symbol_record(number: u32, offset: u32) -> Fault
-    ensures { result ≡ symbol_fault number offset }
-{
-    Fault {
-        number,
-        layer: Layer::SymbolRecord,
-        feature: 128,
-        offset,
-    }
-}
-
-fn state(number: u32, feature: u32) -> Fault
-    ensures { result ≡ state_fault number feature }
-{
-    Fault {
-        number,
-        layer: Layer::State,
-        feature,
-        offset: 0,
+impl Fault {
+    fn new(number: u32, layer: Layer, feature: u32, offset: u32) -> Fault
+        ensures { result ≡ fault layer number feature offset }
+    {
+        Fault {
+            number,
+            layer,
+            feature,
+            offset,
+        }
     }
 }
 
@@ -136,46 +112,59 @@ impl Refusal {
         ensures { result ≡ fault_of self }
     {
         match self {
-            Refusal::ImageTooShort => image(1, 0),
-            Refusal::WrongMark => image(2, 0),
-            Refusal::ImageTooLong => image(3, 0),
-            Refusal::TableOutside => image(4, 40),
-            Refusal::SectionOutside { at } => image(4, at),
-            Refusal::BadRecord { at } => image(5, at),
-            Refusal::SectionTooSmall { feature } => section(6, feature, 0),
-            Refusal::RecordOutside { at } => section(6, 128, at),
-            Refusal::NoTextLength { feature, at } => section(7, feature, at),
-            Refusal::NoListCount => section(8, 11, 0),
-            Refusal::TextOutside { feature, at } => section(9, feature, at),
-            Refusal::IllFormedText { feature, at } => section(10, feature, at),
-            Refusal::IllFormedSymbolText { at } => symbol_record(10, at),
-            Refusal::CutShort { feature, at } => section(11, feature, at),
-            Refusal::SymbolRecordCutShort { at } => symbol_record(11, at),
-            Refusal::WrongClockVersion => section(12, 29, 0),
-            Refusal::UnknownFileType { at } => symbol_record(13, at),
-            Refusal::CountTooLarge { at } => symbol_record(14, at),
-            Refusal::NoNul { at } => symbol_record(15, at),
-            Refusal::SecondFormatPresent => section(16, 132, 0),
-            Refusal::BadEntry { at } => image(17, at),
-            Refusal::TooFewRows { feature } => state(31, feature),
-            Refusal::TooLittleRoom => state(32, 256),
-            Refusal::NoFreeStrip => state(33, 256),
-            Refusal::GroupNotHeld => state(34, 256),
-            Refusal::CountFull => state(35, 256),
-            Refusal::NumbersUsedUp => state(36, 256),
-            Refusal::BadOpening => state(37, 256),
+            Refusal::ImageTooShort => Fault::new(1, Layer::Image, NO_FEATURE, 0),
+            Refusal::WrongMark => Fault::new(2, Layer::Image, NO_FEATURE, 0),
+            Refusal::ImageTooLong => Fault::new(3, Layer::Image, NO_FEATURE, 0),
+            Refusal::TableOutside => Fault::new(4, Layer::Image, NO_FEATURE, 40),
+            Refusal::SectionOutside { at } => Fault::new(4, Layer::Image, NO_FEATURE, at),
+            Refusal::BadRecord { at } => Fault::new(5, Layer::Image, NO_FEATURE, at),
+            Refusal::SectionTooSmall { feature } => Fault::new(6, Layer::Section, feature, 0),
+            Refusal::RecordOutside { at } => Fault::new(6, Layer::Section, SYMBOLS, at),
+            Refusal::NoTextLength { feature, at } => Fault::new(7, Layer::Section, feature, at),
+            Refusal::NoListCount => Fault::new(8, Layer::Section, 11, 0),
+            Refusal::TextOutside { feature, at } => Fault::new(9, Layer::Section, feature, at),
+            Refusal::IllFormedText { feature, at } => Fault::new(10, Layer::Section, feature, at),
+            Refusal::IllFormedSymbolText { at } => Fault::new(10, Layer::SymbolRecord, SYMBOLS, at),
+            Refusal::CutShort { feature, at } => Fault::new(11, Layer::Section, feature, at),
+            Refusal::SymbolRecordCutShort { at } => Fault::new(
+                11,
+                Layer::SymbolRecord,
+                SYMBOLS,
+                at,
+            ),
+            Refusal::WrongClockVersion => Fault::new(12, Layer::Section, 29, 0),
+            Refusal::UnknownFileType { at } => Fault::new(13, Layer::SymbolRecord, SYMBOLS, at),
+            Refusal::CountTooLarge { at } => Fault::new(14, Layer::SymbolRecord, SYMBOLS, at),
+            Refusal::NoNul { at } => Fault::new(15, Layer::SymbolRecord, SYMBOLS, at),
+            Refusal::SecondFormatPresent => Fault::new(16, Layer::Section, 132, 0),
+            Refusal::BadEntry { at } => Fault::new(17, Layer::Image, NO_FEATURE, at),
+            Refusal::TooFewRows { feature } => Fault::new(31, Layer::State, feature, 0),
+            Refusal::TooLittleRoom => Fault::new(32, Layer::State, NO_FEATURE, 0),
+            Refusal::NoFreeStrip => Fault::new(33, Layer::State, NO_FEATURE, 0),
+            Refusal::GroupNotHeld => Fault::new(34, Layer::State, NO_FEATURE, 0),
+            Refusal::CountFull => Fault::new(35, Layer::State, NO_FEATURE, 0),
+            Refusal::NumbersUsedUp => Fault::new(36, Layer::State, NO_FEATURE, 0),
+            Refusal::BadOpening => Fault::new(37, Layer::State, NO_FEATURE, 0),
         }
     }
 }
 
 // A refusal by its number and place, as the programs print it.
-impl fmt::Debug for Refusal {
+impl fmt::Display for Refusal {
+    ghost use Rattle.wire.specs.Shown.{refusal_text};
+
+    ghost output = { λ r. Some (refusal_text r) };
+
     fn fmt<W: fmt::Write>(&self, f: &mut fmt::Formatter<W>) -> fmt::Result {
-        let fault = self.fault();
-        let number = fault.number;
-        let layer = fault.layer as u32;
-        let feature = fault.feature;
-        let offset = fault.offset;
+        let Fault {
+            number,
+            layer,
+            feature,
+            offset,
+        } = self.fault();
+        let layer = layer as u32;
         write!(f, "refused {number} {layer} {feature} {offset}")
     }
 }
+
+impl Error for Refusal {}

@@ -2,7 +2,6 @@
 ghost use Rattle.std.specs.Prelude.{◌≡◌, [], length, replicate};
 ghost use Rattle.table.specs.Rows.{blanks};
 ghost use Rattle.facts.specs.Head.{head_of, ahead, length_of, outcome};
-ghost use Rattle.shelf.specs.Contents.{contents};
 ghost use Rattle.shelf.specs.Calls.{open_answer, opening, head_for, file_answer, file_after, release_answer, release_after, count_answer, head_shown};
 ghost use Rattle.shelf.specs.Histories.{Event, filing};
 ghost use Rattle.shelf.specs.Law.{Continues, Goes};
@@ -18,8 +17,8 @@ impl Shelf {
     // Refused with 37 where a value is out of its bounds: then the shelf has no strip, and its bytes are as they were.
     pub fn open(strip: usize, first: u32, bytes: Vec<u8>) -> (Shelf, Result<(), Refusal>)
         ensures answer { outcome result.1 ≡ open_answer strip first bytes.items }
-        ensures shelf { contents result.0 ≡ opening strip first bytes.items }
-        ensures law { Goes [] (contents result.0) }
+        ensures shelf { result.0 ≡ opening strip first bytes.items }
+        ensures law { Goes [] result.0 }
     {
         Shelf::opened(strip, first, bytes)
     }
@@ -32,11 +31,11 @@ impl Shelf {
         rows: &mut [Row],
         work: &mut [u8],
     ) -> Result<u32, Refusal>
-        ensures answer { outcome result ≡ file_answer (contents self.old) (head_for (contents self.old) (length work.old) (head_of (length rows.old) (S.endian store.now) (S.map store.now).at)) }
-        ensures after { contents self.new ≡ file_after (contents self.old) (head_for (contents self.old) (length work.old) (head_of (length rows.old) (S.endian store.now) (S.map store.now).at)) }
+        ensures answer { outcome result ≡ file_answer self.old (head_for self.old (length work.old) (head_of (length rows.old) (S.endian store.now) (S.map store.now).at)) }
+        ensures after { self.new ≡ file_after self.old (head_for self.old (length work.old) (head_of (length rows.old) (S.endian store.now) (S.map store.now).at)) }
         ensures rows { rows.new ≡ blanks (length rows.old) }
         ensures work { work.new ≡ replicate (length work.old) 0 }
-        ensures law { Continues (contents self.old) (Event.filed (filing (length rows.old) (length work.old) (S.endian store.now) (S.map store.now)) (outcome result)) (contents self.new) }
+        ensures law { Continues self.old (Event.filed (filing (length rows.old) (length work.old) (S.endian store.now) (S.map store.now)) (outcome result)) self.new }
     {
         let number = self.take_in(store, rows, work);
         wipe(work);
@@ -45,26 +44,26 @@ impl Shelf {
 
     // Takes back a filing of the group. With the last one its strip is made 0, and is free.
     pub fn release(&mut self, group: u32) -> Result<(), Refusal>
-        ensures answer { outcome result ≡ release_answer (contents self.old) group }
-        ensures after { contents self.new ≡ release_after (contents self.old) group }
-        ensures law { Continues (contents self.old) (Event.released group (outcome result)) (contents self.new) }
+        ensures answer { outcome result ≡ release_answer self.old group }
+        ensures after { self.new ≡ release_after self.old group }
+        ensures law { Continues self.old (Event.released group (outcome result)) self.new }
     {
         self.lower(group)
     }
 
     // How many filings of the group have not been released.
     pub fn count(&self, group: u32) -> Result<u32, Refusal>
-        ensures answer { outcome result ≡ count_answer (contents self.now) group }
-        ensures law { Continues (contents self.now) (Event.counted group (outcome result)) (contents self.now) }
+        ensures answer { outcome result ≡ count_answer self.now group }
+        ensures law { Continues self.now (Event.counted group (outcome result)) self.now }
     {
         self.tally(group)
     }
 
     // Writes the group's head to the front of `out`, and answers its length. The other bytes are as they were.
     pub fn show(&self, group: u32, out: &mut [u8]) -> Result<usize, Refusal>
-        ensures answer { outcome result ≡ length_of (head_shown (contents self.now) group (length out.old)) }
-        ensures after { out.new ≡ ahead (head_shown (contents self.now) group (length out.old)) out.old }
-        ensures law { Continues (contents self.now) (Event.shown group out.old (outcome result) out.new) (contents self.now) }
+        ensures answer { outcome result ≡ length_of (head_shown self.now group (length out.old)) }
+        ensures after { out.new ≡ ahead (head_shown self.now group (length out.old)) out.old }
+        ensures law { Continues self.now (Event.shown group out.old (outcome result) out.new) self.now }
     {
         self.write_out(group, out)
     }

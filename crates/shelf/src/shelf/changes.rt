@@ -1,14 +1,11 @@
 // The changes at one place of a shelf.
-ghost use Rattle.std.specs.Prelude.{◌≡◌, ℕ, ◌<◌, ◌≤◌, List, length, replicate, Ok};
-ghost use Rattle.table.specs.Rows.{blanks};
-ghost use Rattle.facts.specs.Head.{head_of, fitted};
-ghost use Rattle.shelf.specs.Contents.{contents, row_in, put, blank, handed_out};
+ghost use Rattle.std.specs.Prelude.{◌≡◌, ◌-◌, ◌<◌, ◌≤◌, ◌++◌, length, replicate};
+ghost use Rattle.shelf.specs.Contents.{row_in, put, blank, handed_out};
+ghost use Rattle.shelf.specs.Rows.{row_of, FitsStrip};
 ghost use Rattle.shelf.specs.Calls.{recount, fresh};
+ghost use Rattle.shelf.specs.Stands.{StandsAt};
 
 use super::{Group, Shelf};
-use head::head::write_head;
-use image::store::Store;
-use table::row::Row;
 
 // Writes 0 into every byte.
 pub(crate) fn wipe(out: &mut [u8])
@@ -17,62 +14,59 @@ pub(crate) fn wipe(out: &mut [u8])
     out.fill(0);
 }
 
-impl Group {
-    pub(crate) const FREE: Group = Group {
-        number: 0,
-        count: 0,
-        len: 0,
-    };
+// Writes bytes to the front of a strip, and 0 behind them.
+fn fill_strip(strip: &mut [u8], front: &[u8])
+    requires { length front.now ≤ length strip.old }
+    ensures { strip.new ≡ front.now ++ replicate (length strip.old - length front.now) 0 }
+{
+    let (head, rest) = strip.split_at_mut(front.len());
+    head.copy_from_slice(front);
+    wipe(rest);
 }
 
 impl Shelf {
     // The group at a place has this count.
-    pub(crate) fn set_count(&mut self, i: usize, count: u32)
-        requires { i < self.old.strips }
-        ensures { contents self.new ≡ put (contents self.old) i (recount (row_in (contents self.old) i) count) }
+    pub(crate) fn recount(&mut self, i: usize, group: Group, count: u32)
+        requires { StandsAt self.old i group }
+        ensures { self.new ≡ put self.old i (recount (row_in self.old i) count) }
     {
-        self.groups[i].count = count;
+        self.groups[i] = Some(Group { count, ..group });
+    }
+
+    // A place gets a group or none, with `head` at the front of its strip and 0 behind.
+    fn put(&mut self, i: usize, group: Option<Group>, head: &[u8])
+        requires place { i < length self.old.rows }
+        requires head { length head.now ≤ self.old.strip }
+        requires group { FitsStrip self.old.strip group }
+        ensures { self.new ≡ put self.old i (row_of group (head.now ++ replicate (self.old.strip - length head.now) 0)) }
+    {
+        let from = i * self.strip;
+        fill_strip(&mut self.bytes[from..from + self.strip], head);
+        self.groups[i] = group;
     }
 
     // Frees a place, and writes 0 into its strip.
     pub(crate) fn clear(&mut self, i: usize)
-        requires { i < self.old.strips }
-        ensures { contents self.new ≡ put (contents self.old) i (blank self.old.strip) }
+        requires { i < length self.old.rows }
+        ensures { self.new ≡ put self.old i (blank self.old.strip) }
     {
-        let from = i * self.strip;
-        let to = from + self.strip;
-        self.groups[i] = Group::FREE;
-        wipe(&mut self.bytes[from..to]);
+        self.put(i, None, &[]);
     }
 
-    // Writes the head of a store, of `len` bytes, into the strip at a place, 0 into the rest of it, and makes it a new group
-    // with the next number, which is answered.
-    pub(crate) fn keep<'a, S: Store<'a>>(
-        &mut self,
-        store: &S,
-        rows: &mut [Row],
-        i: usize,
-        len: usize,
-    ) -> u32
-        requires place { i < self.old.strips }
-        requires number { self.old.next < 4294967296 }
-        requires fits { len ≤ self.old.strip }
-        ensures number { result ≡ self.old.next }
-        ensures kept { (h : List ℕ) → fitted self.old.strip (head_of (length rows.old) (S.endian store.now) (S.map store.now).at) ≡ Ok h → len ≡ length h → contents self.new ≡ handed_out (put (contents self.old) i (fresh self.old.strip result h)) }
-        ensures rows { rows.new ≡ blanks (length rows.old) }
+    // Keeps a head at a place, for a new group with the next number.
+    pub(crate) fn keep(&mut self, i: usize, number: u32, head: &[u8])
+        requires place { i < length self.old.rows }
+        requires head { length head.now ≤ self.old.strip }
+        requires number { number ≡ self.old.next }
+        requires nonzero { 1 ≤ number }
+        ensures { self.new ≡ handed_out (put self.old i (fresh self.old.strip number head.now)) }
     {
-        let from = i * self.strip;
-        let to = from + self.strip;
-        let strip = &mut self.bytes[from..to];
-        wipe(strip);
-        let _ = write_head(store, rows, strip);
-        let number = self.next as u32;
-        self.groups[i] = Group {
+        let group = Group {
             number,
             count: 1,
-            len,
+            len: head.len(),
         };
-        self.next += 1;
-        number
+        self.put(i, Some(group), head);
+        self.next = number.checked_add(1);
     }
 }

@@ -1,11 +1,10 @@
 // Opening: there is a shelf in every case.
 ghost use Rattle.std.specs.Prelude.{◌≡◌, true, vec_len};
 ghost use Rattle.facts.specs.Head.{outcome};
-ghost use Rattle.shelf.specs.Contents.{contents};
 ghost use Rattle.shelf.specs.Calls.{in_bounds, empty as empty_of, without as without_strips, open_answer, opening as opening_of};
 
+use super::Shelf;
 use super::changes::wipe;
-use super::{Group, Shelf};
 use wire::refusal::Refusal;
 
 // Whether the values handed in are within their bounds.
@@ -19,28 +18,28 @@ impl Shelf {
     // A shelf of free strips, every byte 0.
     fn empty(strip: usize, first: u32, mut bytes: Vec<u8>) -> Shelf
         requires { in_bounds strip first (vec_len bytes) ≡ true }
-        ensures { contents result ≡ empty_of strip first (vec_len bytes) }
+        ensures { result ≡ empty_of strip first (vec_len bytes) }
     {
         let strips = (bytes.len() / strip).min(64);
         wipe(&mut bytes);
         Shelf {
             strip,
             strips,
-            next: first as u64,
-            groups: [Group::FREE; 64],
+            next: Some(first),
+            groups: [None; 64],
             bytes,
         }
     }
 
     // A shelf with no strip; the bytes are left as they are.
     fn without(bytes: Vec<u8>) -> Shelf
-        ensures { contents result ≡ without_strips bytes.items }
+        ensures { result ≡ without_strips bytes.items }
     {
         Shelf {
             strip: 0,
             strips: 0,
-            next: 1,
-            groups: [Group::FREE; 64],
+            next: Some(1),
+            groups: [None; 64],
             bytes,
         }
     }
@@ -48,7 +47,7 @@ impl Shelf {
     // What `open` does.
     pub(crate) fn opened(strip: usize, first: u32, bytes: Vec<u8>) -> (Shelf, Result<(), Refusal>)
         ensures answer { outcome result.1 ≡ open_answer strip first bytes.items }
-        ensures shelf { contents result.0 ≡ opening_of strip first bytes.items }
+        ensures shelf { result.0 ≡ opening_of strip first bytes.items }
     {
         if in_bounds(strip, first, bytes.len()) {
             (Shelf::empty(strip, first, bytes), Ok(()))

@@ -1,59 +1,88 @@
 // Where groups stand on a shelf.
-ghost use Rattle.std.specs.Prelude.{◌≡◌, ℕ, ◌<◌, IfSome, Decides};
-ghost use Rattle.shelf.specs.Contents.{contents, row_in};
-ghost use Rattle.shelf.specs.Calls.{first_with, is_numbered, has_head};
+ghost use Rattle.std.specs.Prelude.{◌≡◌, ◌<◌, length};
+ghost use Rattle.std.specs.Option.{is_none};
+ghost use Rattle.shelf.specs.Contents.{row_in};
+ghost use Rattle.shelf.specs.Rows.{holds};
+ghost use Rattle.shelf.specs.Calls.{first_with, is_numbered, has_head, place_of, free_place};
+ghost use Rattle.shelf.specs.Stands.{StandsAt, GroupAt, FindsGroup};
 
-use super::Shelf;
+use super::{Group, Shelf};
 
-// Goes no further than the first byte that differs.
-fn same(a: &[u8], b: &[u8]) -> bool
-    ensures { Decides result (a.now ≡ b.now) }
+// The first strip that is held for the group with a number.
+fn numbered(groups: &[Option<Group>], number: u32) -> Option<usize>
+    ensures { result ≡ first_with (holds number) groups.now }
 {
-    a == b
+    groups
+        .iter()
+        .position(|slot| slot.is_some_and(|group| group.number == number))
+}
+
+// The first strip that is free.
+fn first_free(groups: &[Option<Group>]) -> Option<usize>
+    ensures { result ≡ first_with is_none groups.now }
+{
+    groups.iter().position(Option::is_none)
 }
 
 impl Shelf {
-    // The first place with the number; of 0, a free place.
-    pub(crate) fn numbered(&self, number: u32) -> Option<usize>
-        ensures place { result ≡ first_with (is_numbered number) (contents self.now).rows }
-        ensures within { IfSome result (λ i. i < self.now.strips) }
+    // A free place.
+    pub(crate) fn free_place(&self) -> Option<usize>
+        ensures { result ≡ free_place self.now.rows }
     {
-        for i in 0..self.strips {
-            if self.groups[i].number == number {
-                return Some(i);
-            }
-        }
-        None
+        first_free(&self.groups[..self.strips])
+    }
+
+    // The group at a place, if it is not free.
+    fn group_at(&self, i: usize) -> Option<Group>
+        requires { i < length self.now.rows }
+        ensures { GroupAt self.now i result }
+    {
+        let groups = &self.groups[..self.strips];
+        groups[i]
+    }
+
+    // The place of the group with a number, and the group.
+    pub(crate) fn place_of(&self, number: u32) -> Option<(usize, Group)>
+        ensures { FindsGroup self.now (place_of self.now number) result }
+    {
+        let i = numbered(&self.groups[..self.strips], number)?;
+        let group = self.group_at(i)?;
+        Some((i, group))
     }
 
     // The head of the group at a place.
-    pub(crate) fn head_at(&self, i: usize) -> &[u8]
-        requires { i < self.now.strips }
-        ensures { result.now ≡ (row_in (contents self.now) i).head }
+    pub(crate) fn head_at(&self, i: usize, group: Group) -> &[u8]
+        requires { StandsAt self.now i group }
+        ensures { result.now ≡ (row_in self.now i).head }
     {
         let from = i * self.strip;
-        let to = from + self.groups[i].len;
-        &self.bytes[from..to]
+        &self.bytes[from..from + group.len]
     }
 
     // Whether the group at a place keeps `head`.
     fn keeps(&self, i: usize, head: &[u8]) -> bool
-        requires { i < self.now.strips }
-        ensures { result ≡ has_head head.now (row_in (contents self.now) i) }
+        requires { i < length self.now.rows }
+        ensures { result ≡ has_head head.now (row_in self.now i) }
     {
-        self.groups[i].number > 0 && same(self.head_at(i), head)
+        match self.group_at(i) {
+            Some(group) => self.head_at(i, group) == head,
+            None => false,
+        }
     }
 
     // The place of the group that keeps `head`.
-    pub(crate) fn keeping(&self, head: &[u8]) -> Option<usize>
-        ensures place { result ≡ first_with (has_head head.now) (contents self.now).rows }
-        ensures within { IfSome result (λ i. i < self.now.strips) }
+    fn place_keeping(&self, head: &[u8]) -> Option<usize>
+        ensures { result ≡ first_with (has_head head.now) self.now.rows }
     {
-        for i in 0..self.strips {
-            if self.keeps(i, head) {
-                return Some(i);
-            }
-        }
-        None
+        (0..self.strips).find(|i| self.keeps(*i, head))
+    }
+
+    // That place, and the group.
+    pub(crate) fn keeping(&self, head: &[u8]) -> Option<(usize, Group)>
+        ensures { FindsGroup self.now (first_with (has_head head.now) self.now.rows) result }
+    {
+        let i = self.place_keeping(head)?;
+        let group = self.group_at(i)?;
+        Some((i, group))
     }
 }

@@ -1,28 +1,30 @@
 // How much there is on a shelf.
-ghost use Rattle.std.specs.Prelude.{◌≡◌, length};
-ghost use Rattle.shelf.specs.Contents.{contents};
+ghost use Rattle.std.specs.Prelude.{◌≡◌, ◌≤◌, length, count_by};
+ghost use Rattle.std.specs.Option.{is_some};
 ghost use Rattle.shelf.specs.Sizes.{held as held_of};
 
-use super::Shelf;
+use super::{Group, Shelf};
+
+// How many strips are held for groups.
+fn held(groups: &[Option<Group>]) -> usize
+    ensures { result ≡ count_by is_some groups.now }
+{
+    groups.iter().filter(|slot| slot.is_some()).count()
+}
 
 impl Shelf {
     // The number of strips, free or not.
     pub fn strips(&self) -> usize
-        ensures { result ≡ length (contents self.now).rows }
+        ensures strips { result ≡ length self.now.rows }
+        ensures few { result ≤ 64 }
     {
         self.strips
     }
 
     // The number of groups that are held.
     pub fn held(&self) -> usize
-        ensures { result ≡ held_of (contents self.now).rows }
+        ensures { result ≡ held_of self.now.rows }
     {
-        let mut groups = 0;
-        for i in 0..self.strips {
-            if self.groups[i].number != 0 {
-                groups += 1;
-            }
-        }
-        groups
+        held(&self.groups[..self.strips])
     }
 }

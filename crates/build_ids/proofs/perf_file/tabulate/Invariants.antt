@@ -1,5 +1,5 @@
-use Rattle.std.proofs.Common.{◌≡◌, ◌-◌, ◌≤◌, List, ◌++◌, length, drop}
-use Rattle.table.specs.Fills.{Filled}
+use Rattle.std.proofs.Common.{◌≡◌, List, ◌++◌, drop}
+use Rattle.table.specs.Fills.{Filled, IsSameFill}
 use Rattle.table.specs.declared.row.Row.{Row}
 use Rattle.dso_key.specs.Order.{keys}
 use Rattle.build_ids.specs.Events.{records}
@@ -7,12 +7,11 @@ use Rattle.build_ids.specs.Rows.{row_key, rows_from}
 use Rattle.build_ids.proofs.perf_file.tabulate.Given as goal
 
 -- the rows so far are in the table, and the section's are these and then those of the records that are left
-abbrev pub invariant-loop-event : goal.invariant-loop-event
-invariant-loop-event l =
+abbrev pub invariant-loop-at : goal.invariant-loop-at
+invariant-loop-at l =
     (so_far : List Row)
-    × Filled keys (row_key l.section) so_far l.fill l.rows
-    × (rows_from 0 (records l.order l.section) ≡ so_far ++ rows_from l.at (records l.order (drop l.at l.section)))
-    × (l.at ≤ length l.section)
-
-abbrev pub decreases-loop-event : goal.decreases-loop-event
-decreases-loop-event l = length l.section - l.at
+    × Filled keys (λ kind. row_key kind.section.now) so_far l.fill
+    × (rows_from 0 (records l.fn.order l.fn.section) ≡ so_far ++ rows_from l.at-iterator.at (records l.fn.order (drop l.at-iterator.at l.fn.section)))
+    × (l.at-iterator.order ≡ l.fn.order)
+    × IsSameFill l.fill l.initial.fill
+    × (l.at-iterator.section.now ≡ l.fn.section)

@@ -7,5 +7,6 @@ pub returns : goal.returns
 returns c =
     let s : List ℕ = c.args.section.now in
     let clean = sym c.in_ok-check_texts.ensures in
-    ap (λ t. Ok (readable c.args.order c.in-Some.count t)) c.tail.ensures
-    ∙ sym (ap (counted c.args.order s) (sym c.in-Some.ensures.is) ∙ texts-read 11 c.args.order (length s) c.in-Some.count (drop 4 s) clean)
+    let count = c.in_ok-count.count in
+    ap (λ t. Ok (readable c.args.order count t)) c.tail.ensures
+    ∙ sym (ap (counted c.args.order s) (sym c.u32.ensures.is ∙ c.in_ok-count.ensures.ok_part) ∙ texts-read 11 c.args.order (length s) count (drop 4 s) clean)

@@ -1,13 +1,13 @@
-use Rattle.std.proofs.Common.{ap, arith}
-use Rattle.facts.specs.Written.{symbol_bytes, ended}
-use Rattle.simpleperf.specs.Answers.{symbols_of}
-use Rattle.put.proofs.Chains.{puts_then, puts_number, puts_same}
-use Rattle.put_facts.proofs.Mapped.{counted-map}
+use Rattle.std.proofs.Common.{ap}
+use Rattle.facts.specs.Written.{u32, symbol_bytes, ended}
+use Rattle.simpleperf.specs.Answers.{symbol_of, symbols_of}
+use Rattle.put.proofs.Chains.{appends_then, appends_same}
+use Rattle.put_facts.proofs.Drained.{counted_put}
 use Rattle.put_facts.proofs.files.put_file.Goals as goal
 
 pub returns : goal.returns
 returns c =
-    puts_then (omega arith) (puts_same (ap ended c.as_bytes.ensures.value) c.put_ended-at.ensures)
-    (puts_then (omega arith) (puts_number 4 _ c.put_u32-at.ensures.place c.put_u32-at.ensures.after)
-    (puts_then (omega arith) (puts_number 8 _ c.put_u64-at.ensures.place c.put_u64-at.ensures.after)
-    (puts_then (omega arith) (puts_same (counted-map symbol_bytes (symbols_of c.args.file.symbol)) c.put_counted-at.ensures) c.put_info.ensures)))
+    appends_then (appends_same (ap ended c.as_bytes.ensures.value) c.put_ended.ensures)
+    (appends_then (appends_same (ap u32 c.from.ensures) c.put_number.ensures)
+    (appends_then c.put_number-2.ensures
+    (appends_then (counted_put symbol_of symbols_of symbol_bytes c.put_counted.ensures (λ s t h. h.0) (λ s x t h. h)) c.put_info.ensures)))

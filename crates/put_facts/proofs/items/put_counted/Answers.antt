@@ -1,12 +1,18 @@
 use Rattle.std.proofs.Common.{◌≡◌, ◌+◌, length, ap, ◌∙◌, arith}
 use Rattle.facts.specs.Written.{u32}
 use Rattle.put.specs.Overlay.{place}
-use Rattle.put.proofs.Chains.{puts_before, puts_number, puts_same, bytes-long, bytes_low}
+use Rattle.put.proofs.Chains.{appends_before, appends_same, bytes-long, bytes_low}
 use Rattle.put_facts.proofs.items.put_counted.Goals as goal
 
 pub returns : goal.returns
 returns g c =
-    let n = length (g.I.Items.items c.args.list.now) in
-    let from : c.saturating_add.result ≡ place (c.args.at + length (u32 n)) = omega (arith, c.saturating_add.ensures, bytes-long 4 n) in
-    puts_before (omega arith) from c.put_items-listed.ensures.puts
-    (puts_same (ap u32 c.put_items-listed.ensures.count ∙ bytes_low 4 n) (puts_number 4 _ c.put_u32.ensures.place c.put_u32.ensures.after))
+    let p = c.put_items-count.ensures in
+    let n = length p.items in
+    let from : c.saturating_add.result ≡ place (c.at-start.result + length (u32 n)) = omega (arith, c.saturating_add.ensures, bytes-long 4 n) in
+    record {
+      items = p.items;
+      drains = p.drains;
+      appends =
+          appends_before c.at-start.ensures from c.go_to.ensures p.appends c.at-end.ensures c.go_to-2.ensures
+          (appends_same (ap u32 p.counts ∙ bytes_low 4 n) c.put_number.ensures) c.go_to-3.ensures;
+    }

@@ -1,36 +1,22 @@
-use Rattle.std.proofs.Common.{[], ◌∷◌, ◌++◌, length, sym, refl, ap, ◌∙◌, subst, append_assoc, append-nil, arith}
+use Rattle.std.proofs.Common.{[], arith, subst}
+use Rattle.std.specs.Iterator.{Yields}
 use Rattle.std.proofs.lemmas.List.{length_push, flat_map_more}
-use Rattle.put.specs.Puts.{Puts}
-use Rattle.put.proofs.Chains.{puts_then, puts_none, puts_same}
-use Rattle.put_facts.specs.Items.{together}
+use Rattle.put.proofs.Chains.{appends_none, appends_then, appends_same}
 use Rattle.put_facts.proofs.items.put_items.Goals as goal
 
-pub loop-after-init : goal.loop-after-init
-loop-after-init g c = ([], refl, puts_none _ _ (omega arith), refl)
+pub loop-item-init : goal.loop-item-init
+loop-item-init g c = (appends_none c.args.w.now, omega arith)
 
-pub loop-after-smaller : goal.loop-after-smaller
-loop-after-smaller g c = omega (arith, ap length c.in-Some.ensures.1)
-
-pub loop-after-preserved : goal.loop-after-preserved
-loop-after-preserved g c =
-    let inv = c.loop-after.invariant in
-    let so_far = inv.0 in
-    let step = c.in-Some.ensures in
-    let item = step.0 in (
-      so_far ++ item ∷ [],
-      inv.1
-          ∙ (ap (λ t. so_far ++ t) step.1 ∙ sym (append_assoc so_far (item ∷ []) (g.I.Items.items c.put_next.new.self))),
-      puts_same (flat_map_more (λ x. x) [] so_far item) (puts_then (omega arith) inv.2 step.2),
-      omega (arith, inv.3, length_push so_far item),
-    )
+pub loop-item-preserved : goal.loop-item-preserved
+loop-item-preserved g c = (
+  appends_same (flat_map_more g.T.Told.bytes [] c.loop-item.yielded c.in-Some.item) (appends_then c.loop-item.invariant.0 c.put.ensures),
+  omega (arith, c.loop-item.invariant.1, length_push c.loop-item.yielded c.in-Some.item),
+)
 
 pub returns : goal.returns
-returns g c =
-    let inv = c.loop-after.invariant in
-    let all = inv.1 ∙ (ap (λ t. inv.0 ++ t) c.in_default.ensures.0 ∙ append-nil inv.0) in
-    record {
-      puts =
-          subst (λ out. Puts (together (g.I.Items.items c.args.list.now)) c.args.out.now c.args.at c.loop-after.next out) (sym c.in_default.ensures.1)
-          (puts_same (ap together (sym all)) inv.2);
-      count = omega (arith, inv.3, ap length all);
-    }
+returns g c = record {
+  items = c.loop-item.yielded;
+  drains = (c.next.new.self, (c.loop-item.item-iterator, subst (λ s. Yields g.I.Iterator.next_gives s c.loop-item.yielded c.loop-item.item-iterator) c.into_iter-item-iterator.ensures.into_iter_gives c.loop-item.yielded_by, subst (λ x. g.I.Iterator.next_gives c.loop-item.item-iterator x c.next.new.self) c.in-None.is c.next.ensures.steps));
+  appends = c.loop-item.invariant.0;
+  counts = c.loop-item.invariant.1;
+}

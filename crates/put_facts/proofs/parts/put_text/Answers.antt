@@ -1,6 +1,5 @@
-use Rattle.std.proofs.Common.{arith}
-use Rattle.put.proofs.Chains.{puts_then}
+use Rattle.put.proofs.Chains.{appends_then}
 use Rattle.put_facts.proofs.parts.put_text.Goals as goal
 
 pub returns : goal.returns
-returns c = puts_then (omega arith) c.put_len-at.ensures (record { goes = c.put.ensures.place; leaves = c.put.ensures.after })
+returns c = appends_then c.put_len.ensures c.put.ensures

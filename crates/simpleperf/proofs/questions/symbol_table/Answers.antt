@@ -3,11 +3,12 @@ use Rattle.std.proofs.lemmas.Iterator.Consumers.{nth_from_yields_List}
 use Rattle.perf_data.specs.Questions.{mapped}
 use Rattle.simpleperf.specs.Answers.{file_of, files_of}
 use Rattle.simpleperf.specs.Numbered.{one_of}
-use Rattle.simpleperf.proofs.Views.{files_road, same}
+use Rattle.simpleperf.specs.Tables.{sized_file}
+use Rattle.simpleperf.proofs.Views.{road, same}
 use Rattle.simpleperf.proofs.questions.symbol_table.Goals as goal
 
 pub returns-in-Some : goal.returns-in-Some
 returns-in-Some g c =
-    let found = nth_from_yields_List c.nth.result c.nth.new.self c.args.k c.nth.ensures.ran (files_road c.in-Some.tables) in
+    let found = nth_from_yields_List c.nth.result c.nth.new.self c.args.k c.nth.ensures.ran (road file_of sized_file c.in-Some.tables) in
     ap Ok (same file_of c.nth.result ∙ found)
     ∙ ap (one_of c.args.k) (ap (λ x. Ok (mapped files_of x)) (sym c.in-Some.is) ∙ c.in_ok-symbol_tables.ensures)

@@ -6,7 +6,7 @@ use Rattle.simpleperf.proofs.tables.check_files.Given as goal
 
 abbrev pub invariant-loop-rest : goal.invariant-loop-rest
 invariant-loop-rest l =
-    first_fault (run (sized_file l.order l.size) l.section) ≡ first_fault (run (sized_file l.order l.size) l.rest)
+    first_fault (run (sized_file l.reader.order l.reader.size) l.section) ≡ first_fault (run (sized_file l.reader.order l.reader.size) l.rest)
 
 abbrev pub decreases-loop-rest : goal.decreases-loop-rest
 decreases-loop-rest l = length l.rest

@@ -1,8 +1,9 @@
 use Rattle.std.proofs.Common.{take}
-use Rattle.table.specs.Fills.{Filled}
+use Rattle.table.specs.Fills.{Filled, IsSameFill}
 use Rattle.table_cases.proofs.caller.tabulate.Given as goal
 
+-- the rows so far are in the table
 abbrev pub invariant-loop-row : goal.invariant-loop-row
 invariant-loop-row g l =
     let m = g.K.Kind in
-    Filled m.order (m.key l.kind) (take l.row-index l.given) l.fill l.rows
+    Filled m.order (λ kind. m.key kind.now) (take l.row-index l.given) l.fill × IsSameFill l.fill l.initial.fill

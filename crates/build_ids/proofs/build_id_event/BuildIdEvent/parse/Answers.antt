@@ -34,7 +34,8 @@ returns c =
     let size = c.max-size.result in
     let m = c.in_ok-misc.misc in
     let misc : Some m ≡ number o 2 (drop 4 s) = c.in_ok-misc.ensures.is ∙ ap (number o 2) c.tail.ensures in
-    let said : Some c.in_ok-u16.field-0 ≡ number o 2 (drop 6 s) = c.in_ok-u16.ensures.is ∙ ap (number o 2) c.tail-2.ensures in
+    let same : c.from.result ≡ c.in_ok-u16.field-0 = search rules in
+    let said : Some c.from.result ≡ number o 2 (drop 6 s) = ap Some same ∙ c.in_ok-u16.ensures.is ∙ ap (number o 2) c.tail-2.ensures in
     let built : ◌≡◌ {A = Event} (event_of (record { misc = m; build_id = c.id_of.result; path = c.before_nul.result; size = size })) (record { misc = m; id = _; path = _; size = size }) =
     λ i. record { misc = m; id = c.id_of.ensures i; path = c.before_nul.ensures i; size = size } in
     ap Some built

@@ -1,8 +1,8 @@
-use Rattle.std.proofs.Common.{◌≡◌, ℕ, ◌*◌, ◌≤◌, length, replicate, vec_len, sym, refl, ap, ◌∙◌, subst, arith, rules}
+use Rattle.std.proofs.Common.{◌≡◌, ℕ, ◌*◌, ◌≤◌, length, replicate, vec_len, None, sym, refl, ap, ◌∙◌, subst, true, false, ◌&&◌, leb, arith, rules}
+use Rattle.std.proofs.lemmas.Bool.{and_parts, leb-true}
 use Rattle.std.proofs.lemmas.List.{length-replicate, with_items_is}
-use Rattle.shelf.specs.declared.shelf.Group.{Group}
-use Rattle.shelf.specs.Rows.{free}
-use Rattle.shelf.specs.Contents.{contents_of}
+use Rattle.shelf.specs.Rows.{FitsStrip}
+use Rattle.shelf.specs.Strips.{contents_of}
 use Rattle.shelf.specs.Calls.{strips_in}
 use Rattle.shelf.proofs.Openings.{all_free, emptied, strips_fit}
 use Rattle.shelf.proofs.shelf.Shelf.empty.Goals as goal
@@ -10,7 +10,8 @@ use Rattle.shelf.proofs.shelf.Shelf.empty.Goals as goal
 pub invariant_of-result : goal.invariant_of-result
 invariant_of-result c =
     let strips : c.min-strips.result ≡ strips_in (vec_len c.args.bytes) c.args.strip = search rules in
-    record { places = refl; few = omega arith; room = subst (λ (n : ℕ). n * c.args.strip ≤ vec_len c.args.bytes) (sym strips) (strips_fit (vec_len c.args.bytes) c.args.strip); within = λ j. omega (arith, ap (λ (g : Group). g.len) (all_free 64 j)) }
+    let first = (and_parts (leb 1 c.args.first) (leb c.args.strip (vec_len c.args.bytes)) (and_parts (leb 5 c.args.strip && leb c.args.strip 65536) (leb 1 c.args.first && leb c.args.strip (vec_len c.args.bytes)) c.requires).1).0 in
+    record { places = refl; few = omega arith; room = subst (λ (n : ℕ). n * c.args.strip ≤ vec_len c.args.bytes) (sym strips) (strips_fit (vec_len c.args.bytes) c.args.strip); fits = λ j. rw (all_free 64 j) tt; next = leb-true 1 c.args.first first }
 
 pub returns : goal.returns
 returns c =
@@ -18,6 +19,6 @@ returns c =
     let room = vec_len c.args.bytes in
     let strips : c.min-strips.result ≡ strips_in room strip = search rules in
     let wiped : c.wipe.new.out ≡ replicate room 0 = c.wipe.ensures ∙ ap (λ (n : ℕ). replicate n 0) c.deref_mut.ensures.len in
-    ap (contents_of strip c.min-strips.result c.args.first (replicate 64 free)) (with_items_is c.args.bytes c.wipe.new.out (ap length wiped ∙ length-replicate {A = ℕ} room 0) ∙ wiped)
-    ∙ ap (λ (n : ℕ). contents_of strip n c.args.first (replicate 64 free) (replicate room 0)) strips
-    ∙ emptied strip (strips_in room strip) c.args.first room (replicate 64 free) (all_free 64) (strips_fit room strip)
+    ap (contents_of strip c.min-strips.result c.args.first (replicate 64 None)) (with_items_is c.args.bytes c.wipe.new.out (ap length wiped ∙ length-replicate {A = ℕ} room 0) ∙ wiped)
+    ∙ ap (λ (n : ℕ). contents_of strip n c.args.first (replicate 64 None) (replicate room 0)) strips
+    ∙ emptied strip (strips_in room strip) c.args.first room (replicate 64 None) (all_free 64) (strips_fit room strip)

@@ -1,21 +1,26 @@
-use Rattle.std.proofs.Common.{ℕ, ◌*◌, List, get_or, take, drop, vec_items, sym, ap, ◌∙◌, arith}
+use Rattle.std.proofs.Common.{ℕ, ◌≡◌, ◌+◌, ◌*◌, ◌≤◌, List, take, drop, get_or, vec_items, Some, None, sym, ap, ◌∙◌, arith}
 use Rattle.std.proofs.lemmas.List.{take-take}
-use Rattle.shelf.specs.declared.shelf.Group.{Group}
-use Rattle.shelf.specs.Rows.{Row, free}
-use Rattle.shelf.proofs.Places.{strip_end, row_on}
+use Rattle.shelf.specs.Rows.{Row}
+use Rattle.shelf.proofs.Places.{strip_room, strip_small, head_within, head_on}
 use Rattle.shelf.proofs.shelf.Shelf.head_at.Goals as goal
+
+pub overflow_mul-from : goal.overflow_mul-from
+overflow_mul-from c = omega (arith, strip_small c.self.inside _ c.self.view_is c.args.i c.self.invariant c.requires.place)
+
+pub overflow_add-result : goal.overflow_add-result
+overflow_add-result c =
+    let s = c.self.inside in
+    omega (arith, strip_small s _ c.self.view_is c.args.i c.self.invariant c.requires.place, head_within s _ c.self.view_is c.args.i c.self.invariant c.requires.place, c.requires.head)
 
 pub slice_bounds-result-end : goal.slice_bounds-result-end
 slice_bounds-result-end c =
-    let s = c.args.self.now in
-    omega (arith, strip_end c.args.i s.strips s.strip c.requires, s.within c.args.i, s.room, c.deref.ensures.len)
+    let s = c.self.inside in
+    omega (arith, strip_room s _ c.self.view_is c.args.i c.self.invariant c.requires.place, head_within s _ c.self.view_is c.args.i c.self.invariant c.requires.place, c.requires.head, c.deref.ensures.len)
 
 pub returns : goal.returns
 returns c =
-    let s = c.args.self.now in
+    let s = c.self.inside in
     let from : ℕ = c.args.i * s.strip in
-    let g : Group = get_or s.groups c.args.i free in
     ap (λ (n : ℕ). take n (drop from c.deref.result.now)) (omega arith)
-    ∙ ap (λ (b : List ℕ). take g.len (drop from b)) c.deref.ensures.value
-    ∙ sym (take-take g.len s.strip (drop from (vec_items s.bytes)) (s.within c.args.i))
-    ∙ sym (ap (λ (r : Row). r.head) (row_on s c.args.i c.requires))
+    ∙ ap (λ (b : List ℕ). take c.args.group.len (drop from b)) c.deref.ensures.value
+    ∙ head_on s _ c.self.view_is c.args.i c.args.group c.self.invariant c.requires

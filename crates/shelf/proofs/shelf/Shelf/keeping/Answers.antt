@@ -1,25 +1,22 @@
-use Rattle.std.proofs.Common.{sym, arith, rules, below_more}
-use Rattle.shelf.specs.Calls.{has_head}
-use Rattle.shelf.specs.Contents.{contents, blank}
-use Rattle.shelf.proofs.Firsts.{first_here, first-none}
-use Rattle.shelf.proofs.Places.{rows-length}
+use Rattle.std.proofs.Common.{◌≡◌, sym, ap, ◌∙◌, subst, arith}
+use Rattle.shelf.specs.Contents.{blank, row_in}
+use Rattle.shelf.specs.Calls.{first_with, has_head}
+use Rattle.shelf.specs.Stands.{FindsGroup}
+use Rattle.shelf.proofs.Firsts.{found_at}
+use Rattle.shelf.proofs.Places.{head_held}
 use Rattle.shelf.proofs.shelf.Shelf.keeping.Goals as goal
 
-pub returns-then-keeps : goal.returns-then-keeps
-returns-then-keeps c =
-    let s = c.args.self.now in
-    record {
-      place = sym (first_here (has_head c.args.head.now) (contents s).rows (blank 0) c.loop-i.i (omega (arith, rows-length s)) c.loop-i.invariant (search rules));
-      within = omega arith;
-    }
+pub returns-in_err-i : goal.returns-in_err-i
+returns-in_err-i c =
+    let p = has_head c.args.head.now in
+    subst (FindsGroup c.args.self.now (first_with p c.args.self.now.rows)) (sym c.from_residual.ensures) (sym c.place_keeping.ensures ∙ c.in_err-i.was)
 
-pub loop-i-preserved : goal.loop-i-preserved
-loop-i-preserved c = below_more _ _ c.loop-i.invariant (search rules)
+pub group_at-requires : goal.group_at-requires
+group_at-requires c = (found_at (has_head c.args.head.now) c.args.self.now.rows (blank 0) c.in_ok-i.i (sym c.place_keeping.ensures ∙ c.in_ok-i.was)).0
+
+pub returns-in_err-group : goal.returns-in_err-group
+returns-in_err-group c =
+    absurd (head_held c.args.head.now (row_in c.args.self.now c.in_ok-i.i) (found_at (has_head c.args.head.now) c.args.self.now.rows (blank 0) c.in_ok-i.i (sym c.place_keeping.ensures ∙ c.in_ok-i.was)).1 c.in_err-group.ensures)
 
 pub returns : goal.returns
-returns c =
-    let s = c.args.self.now in
-    record {
-      place = sym (first-none (has_head c.args.head.now) (contents s).rows (blank 0) (λ j l. c.loop-i.invariant j (omega (arith, rows-length s))));
-      within = tt;
-    }
+returns c = (sym c.place_keeping.ensures ∙ c.in_ok-i.was, c.in_ok-group.ensures)

@@ -1,10 +1,8 @@
-use Rattle.std.proofs.Common.{subst}
-use Rattle.table.specs.Fills.{Filled}
 use Rattle.table.proofs.More.{still_over}
 use Rattle.table.proofs.fill.Fill.add.Goals as goal
 
-pub returns-in-Over : goal.returns-in-Over
-returns-in-Over g c given fill =
+pub returns-in_default-clause-added : goal.returns-in_default-clause-added
+returns-in_default-clause-added g c given =
     let m = g.K.Kind in
-    let key = m.key c.args.kind.now in
-    still_over m.order key given c.args.rows.now c.args.row (subst (λ f. Filled m.order key given f c.args.rows.now) c.in-Over.is fill)
+    let s = c.args.self.now in
+    still_over m.order (m.key s.kind) given s.rows.now c.args.row s.used c.in_default.is

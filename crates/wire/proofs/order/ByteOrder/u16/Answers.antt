@@ -1,15 +1,9 @@
 use Rattle.std.proofs.Common.{arith}
-use Rattle.wire.proofs.Places.{Fit, number_read}
+use Rattle.wire.proofs.Places.{number_read}
 use Rattle.wire.proofs.order.ByteOrder.u16.Goals as goal
 
-pub returns-in-Little : goal.returns-in-Little
-returns-in-Little c =
-    let fit : Fit c.args.s.now = λ i. omega (arith, c.type_inv.s i) in
-    let r = number_read c.args.self 2 c.args.s.now c.from_le_bytes.result (omega arith) fit (rw c.in-Little.is (omega arith)) in
-    record { is = r.0; bytes = r.1 }
-
-pub returns-in-Big : goal.returns-in-Big
-returns-in-Big c =
-    let fit : Fit c.args.s.now = λ i. omega (arith, c.type_inv.s i) in
-    let r = number_read c.args.self 2 c.args.s.now c.from_be_bytes.result (omega arith) fit (rw c.in-Big.is (omega arith)) in
+pub returns : goal.returns
+returns c =
+    let (long, order) = c.in_ok-bytes.ensures in
+    let r = number_read c.args.self 2 c.args.s.now c.in_ok-bytes.bytes c.from_le_bytes.result long c.type_inv.s order (omega arith) in
     record { is = r.0; bytes = r.1 }
