@@ -72,7 +72,7 @@ fn section_of(heap: Global, word: &str) -> Result<Option<Vec<u8>>, LineError> {
 }
 
 impl Line {
-    pub fn read(heap: Global, text: &str) -> Result<Line, LineError> {
+    pub(crate) fn read(heap: Global, text: &str) -> Result<Line, LineError> {
         let (question, rest) = text.split_once(' ').ok_or(LineError::Bad)?;
         let (order, rest) = rest.split_once(' ').ok_or(LineError::Bad)?;
         let (rows, section) = rest.split_once(' ').ok_or(LineError::Bad)?;
@@ -85,7 +85,7 @@ impl Line {
     }
 
     // The section's bytes; none where it is absent.
-    pub fn bytes(&self) -> &[u8] {
+    pub(crate) fn bytes(&self) -> &[u8] {
         match &self.section {
             Some(bytes) => bytes.as_slice(),
             None => &[],
@@ -93,7 +93,7 @@ impl Line {
     }
 
     // The section, as that of a feature; or a store with none, since no feature has the number 256.
-    pub fn store(&self, feature: u32) -> SectionStore<'_> {
+    pub(crate) fn store(&self, feature: u32) -> SectionStore<'_> {
         let feature = if self.section.is_some() { feature } else { 256 };
         SectionStore::new(self.order, feature, self.bytes())
     }

@@ -4,7 +4,11 @@ use dso_key::dso_key::DsoKey;
 use std::alloc::AllocError;
 
 // A key's kind, and the bytes of its name in hexadecimal.
-pub fn write_key(out: &mut String, key: DsoKey<'_>, between: &str) -> Result<(), AllocError> {
+pub(crate) fn write_key(
+    out: &mut String,
+    key: DsoKey<'_>,
+    between: &str,
+) -> Result<(), AllocError> {
     let kind = key.kind();
     write!(out, "{kind}{between}x")?;
     for byte in key.name() {

@@ -79,7 +79,7 @@ impl<T: Table> Told for TableRows<'_, T> {
 }
 
 // Those rows, by what a question for a table answers.
-pub fn used_rows<T: Table>(
+pub(crate) fn used_rows<T: Table>(
     used: Result<Option<usize>, Refusal>,
     table: T,
     rows: &[Row],

@@ -25,7 +25,7 @@ impl Told for StringList<'_> {
 }
 
 // Any bytes, as they are shown.
-pub fn write_shown(out: &mut String, bytes: &[u8]) -> Result<(), AllocError> {
+pub(crate) fn write_shown(out: &mut String, bytes: &[u8]) -> Result<(), AllocError> {
     write!(out, "text x")?;
     for byte in Shown::new(bytes) {
         write!(out, "{byte:02x}")?;

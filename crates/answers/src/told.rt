@@ -8,7 +8,7 @@ pub trait Told: Copy {
 }
 
 // What is told, that nothing is, or why the question is refused.
-pub fn write_answer<T: Told>(
+pub(crate) fn write_answer<T: Told>(
     out: &mut String,
     answer: Result<Option<T>, Refusal>,
 ) -> Result<(), AllocError> {

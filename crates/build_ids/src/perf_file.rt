@@ -12,12 +12,11 @@ use crate::builds::Builds;
 use dso_key::cpu_mode::CpuMode;
 use dso_key::least::least_mode;
 use image::store::Store;
+use perf_data::features::Feature;
 use table::fill::Fill;
 use table::row::{Row, blank_all};
 use wire::order::ByteOrder;
 use wire::refusal::Refusal;
-
-const BUILD_ID: u32 = 2;
 
 // The row of a record that stands at an offset, if it has a key.
 fn row_of(at: usize, event: BuildIdEvent<'_>) -> Option<Row>
@@ -55,12 +54,12 @@ fn read<'a, S: Store<'a>>(store: &S, rows: &mut [Row]) -> Result<Option<usize>, 
     ensures is { result ≡ answer (length rows.old) (S.endian store.now) ((S.map store.now).at 2) }
     ensures after { rows.new ≡ left (length rows.old) (S.endian store.now) ((S.map store.now).at 2) }
 {
-    let Some(section) = store.section(BUILD_ID) else {
+    let Some(section) = store.section(Feature::BUILD_ID.0) else {
         blank_all(rows);
         return Ok(None);
     };
     let used = tabulate(store.order(), section, rows).ok_or(Refusal::TooFewRows {
-        feature: BUILD_ID,
+        feature: Feature::BUILD_ID.0,
     })?;
     Ok(Some(used))
 }

@@ -5,9 +5,6 @@
 //   absent ORDER ROWS x: the same of a store that has no such section
 #![tactic(auto)]
 
-mod alone;
-
-use crate::alone::Alone;
 use anyhow::anyhow;
 use build_ids::builds::Builds;
 use build_ids::perf_file::build_ids;
@@ -16,9 +13,17 @@ use dso_key::dso_key::DsoKey;
 use dso_key::least::least_mode;
 use dso_key::write::name;
 use hexadecimal::{Hex, decode};
+use image::store::Store;
+use section_store::SectionStore;
 use std::io::{BufRead, BufReader};
 use table::row::Row;
 use wire::order::ByteOrder;
+
+// The feature that build ids are of.
+const BUILD_ID: u32 = 2;
+
+// No feature has this number, so a store of it has no section.
+const NO_FEATURE: u32 = 256;
 
 fn print_key(rt: &HostRuntime, misc: u16, path: &[u8]) -> anyhow::Result<()> {
     let mode = CpuMode::of_misc(misc);
@@ -59,7 +64,7 @@ fn print_row(rt: &HostRuntime, builds: &Builds<'_>, row: &Row) -> anyhow::Result
     Ok(())
 }
 
-fn print_section(rt: &HostRuntime, store: Alone<'_>, room: usize) -> anyhow::Result<()> {
+fn print_section(rt: &HostRuntime, store: SectionStore<'_>, room: usize) -> anyhow::Result<()> {
     let stale = Row {
         number: 9,
         ..Row::BLANK
@@ -75,7 +80,7 @@ fn print_section(rt: &HostRuntime, store: Alone<'_>, room: usize) -> anyhow::Res
         Err(refusal) => print!(rt; "{refusal}")?,
     }
     let builds = Builds {
-        section: store.section.unwrap_or(b""),
+        section: store.section(BUILD_ID).unwrap_or(b""),
     };
     for row in rows.iter().take(used) {
         print_row(rt, &builds, row)?;
@@ -98,21 +103,21 @@ fn print_line(rt: &HostRuntime, line: &str) -> anyhow::Result<()> {
     };
     let mut words = words.split(' ');
     let (what, first, second) = (words.next(), words.next(), words.next());
-    // Kept: this match is the parser itself; an enum of the four lines would be matched once more, with the same arms.
+    // Kept: this match is the parser itself; an enum of the four lines would be matched once more, with the same four arms.
     match (what, first, second) {
         (Some("key"), Some(misc), None) => print_key(rt, misc.parse::<u16>()?, &bytes),
         (Some("name"), Some(misc), Some(room)) => {
             print_name(rt, misc.parse::<u16>()?, room.parse::<usize>()?, &bytes)
         }
-        (Some(what), Some(order), Some(room)) => {
-            let store = Alone {
-                order: order.parse().unwrap_or(ByteOrder::Little),
-                section: if what == "section" {
-                    Some(&bytes)
-                } else {
-                    None
-                },
-            };
+        (Some("section"), Some(order), Some(room)) => {
+            let order = order.parse().unwrap_or(ByteOrder::Little);
+            let store = SectionStore::new(order, BUILD_ID, &bytes);
+            print_section(rt, store, room.parse::<usize>()?)
+        }
+        // absent
+        (Some(_), Some(order), Some(room)) => {
+            let order = order.parse().unwrap_or(ByteOrder::Little);
+            let store = SectionStore::new(order, NO_FEATURE, &bytes);
             print_section(rt, store, room.parse::<usize>()?)
         }
         _ => Err(anyhow!("a line is a key, a name or a section")),

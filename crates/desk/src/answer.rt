@@ -4,7 +4,7 @@ use crate::request::{BadLine, Filing, Opening, Request};
 use hexadecimal::{Hex, decode};
 use std::io::Read;
 use std::{fmt, fs, io};
-use wire::refusal::{Fault, Refusal};
+use wire::refusal::Refusal;
 
 // No image is longer. One byte more is read, which tells that a file is.
 const LONGEST_IMAGE: u64 = 16_777_216;
@@ -35,16 +35,7 @@ impl fmt::Display for Reply<'_, '_> {
                 let head = Hex(head);
                 write!(f, "head x{head}")
             }
-            Reply::Refused(refusal) => {
-                let Fault {
-                    number,
-                    layer,
-                    feature,
-                    offset,
-                } = refusal.fault();
-                let layer = layer as u32;
-                write!(f, "refused {number} {layer} {feature} {offset}")
-            }
+            Reply::Refused(refusal) => write!(f, "{refusal}"),
             Reply::Unread(path) => write!(f, "cannot read {path}"),
             Reply::NoRequest(bad) => write!(f, "{bad}"),
         }

@@ -1,4 +1,3 @@
 pub mod Bytes
-pub mod Rules
 pub mod Leasts
 pub mod Writes

@@ -10,7 +10,8 @@ use crate::path::file_name;
 use text::shown::Shown;
 
 // Bytes that stand as they are, then the shown form of a text, and then bytes that stand as they are.
-// Kept: as two of std's `Chain`s it would hold four flags of what is done, and what is to come would be told by cases of them.
+// Kept: std's `Chain` holds for each side a flag that it has ended, which clauses see, so that what is to come would be told
+// by cases of four flags, in place of the three parts put together.
 #[derive(Drop)]
 pub struct Name<'a> {
     front: &'a [u8],

@@ -7,6 +7,7 @@ ghost use Rattle.head.specs.Wrote.{Wrote};
 
 use facts::carried::Carried;
 use image::store::Store;
+use perf_data::features::Feature;
 use put::Writer;
 use put_facts::fact::put_fact;
 use table::row::{Row, blank_all};
@@ -14,9 +15,6 @@ use wire::refusal::Refusal;
 
 // `PRH`, and the version 1.
 const MARK: [u8; 5] = [0x50, 0x52, 0x48, 0x01, 0x00];
-
-// Files and symbols in a second format, which this library does not read.
-const SIMPLEPERF_FILE2: u32 = 132;
 
 // No image is longer.
 const MOST: usize = 16_777_216;
@@ -77,7 +75,8 @@ fn write_whole<'a, S: Store<'a>>(
     requires { w.old.at ≡ 0 }
     ensures { Wrote (head_of (length rows.old) (S.endian store.now) (S.map store.now).at) w.old result w.new }
 {
-    if store.section(SIMPLEPERF_FILE2).is_some() {
+    // files and symbols in a second format, which this library does not read
+    if store.section(Feature::SIMPLEPERF_FILE2.0).is_some() {
         return Err(Refusal::SecondFormatPresent);
     }
     w.put(&MARK);

@@ -4,12 +4,13 @@
 // not the head's has changed.
 #![tactic(auto)]
 
-use anyhow::anyhow;
+use anyhow::{Context, anyhow};
 use head::from_image::write_image_head;
 use hexadecimal::{Hex, decode};
 use std::io::{BufRead, BufReader};
+use std::iter::Cycle;
+use std::ops::RangeInclusive;
 use table::row::Row;
-use wire::refusal::Refusal;
 
 // The rows and the bytes that are made once and lent for every line.
 const MOST_ROWS: usize = 65_536;
@@ -27,43 +28,26 @@ const DIRTY: Row = Row {
     value_len: 7,
 };
 
-// What a byte of the room is before a call: never 0, and not the same as its neighbours.
-fn filling(at: usize) -> u8 {
-    (at % 251 + 1) as u8
+// What the bytes of the room are before a call, over and over: never 0, and none the same as its neighbours.
+fn filling() -> Cycle<RangeInclusive<u8>> {
+    (1..=251).cycle()
 }
 
 fn fill(rows: &mut [Row], room: &mut [u8]) {
-    for row in rows.iter_mut() {
-        *row = DIRTY;
-    }
-    for (at, byte) in room.iter_mut().enumerate() {
-        *byte = filling(at);
+    rows.fill(DIRTY);
+    for (byte, filled) in room.iter_mut().zip(filling()) {
+        *byte = filled;
     }
 }
 
 // Whether a row is not blank, or a byte from a place on not as it was.
 fn is_touched(rows: &[Row], room: &[u8], from: usize) -> bool {
-    for row in rows {
-        if *row != Row::BLANK {
-            return true;
-        }
-    }
-    for (at, byte) in room.iter().enumerate().skip(from) {
-        if *byte != filling(at) {
-            return true;
-        }
-    }
-    false
-}
-
-fn print_refusal(rt: &HostRuntime, refusal: Refusal) -> anyhow::Result<()> {
-    let fault = refusal.fault();
-    let number = fault.number;
-    let layer = fault.layer as u32;
-    let feature = fault.feature;
-    let offset = fault.offset;
-    print!(rt; "refused {number} {layer} {feature} {offset}")?;
-    Ok(())
+    rows.iter().any(|row| *row != Row::BLANK)
+        || room
+            .iter()
+            .zip(filling())
+            .skip(from)
+            .any(|(byte, filled)| *byte != filled)
 }
 
 fn print_head(
@@ -75,12 +59,12 @@ fn print_head(
     fill(rows, room);
     let written = match write_image_head(image, MOST, rows, room) {
         Ok(len) => {
-            let head = Hex(&room[0..len]);
+            let head = Hex(&room[..len]);
             print!(rt; "head x{head}")?;
             len
         }
         Err(refusal) => {
-            print_refusal(rt, refusal)?;
+            print!(rt; "{refusal}")?;
             0
         }
     };
@@ -97,32 +81,26 @@ fn print_line(
     rows: &mut [Row],
     room: &mut [u8],
 ) -> anyhow::Result<()> {
-    let Some((front, text)) = line.split_once(" x") else {
-        return Err(anyhow!("a line is a number of rows, bytes of room, x and hexadecimal"));
-    };
-    let Some((lent, given)) = front.split_once(' ') else {
-        return Err(anyhow!("a line has no bytes of room"));
-    };
+    let (front, text) = line.split_once(" x").context(
+        "a line is a number of rows, bytes of room, x and hexadecimal",
+    )?;
+    let (lent, given) = front
+        .split_once(' ')
+        .context("a line has no bytes of room")?;
     let lent = lent.parse::<u32>()? as usize;
     let given = given.parse::<u32>()? as usize;
-    if lent > rows.len() || given > room.len() {
+    let (Some(rows), Some(room)) = (rows.get_mut(..lent), room.get_mut(..given)) else {
         return Err(anyhow!("a line has more rows or room than there are"));
-    }
-    let Some(image) = decode(rt.alloc(), text.as_bytes())? else {
-        return Err(anyhow!("a line has no whole hexadecimal"));
     };
-    print_head(rt, &image, &mut rows[0..lent], &mut room[0..given])
-}
-
-fn print_lines(rt: &HostRuntime) -> anyhow::Result<()> {
-    let mut rows = vec![in rt.alloc(); Row::BLANK; MOST_ROWS]?;
-    let mut room = vec![in rt.alloc(); 0u8; MOST_ROOM]?;
-    for line in BufReader::new(rt.alloc(), rt.stdin())?.lines(rt.alloc()) {
-        print_line(rt, line?.as_str(), &mut rows, &mut room)?;
-    }
-    Ok(())
+    let image = decode(rt.alloc(), text.as_bytes())?.context("a line has no whole hexadecimal")?;
+    print_head(rt, &image, rows, room)
 }
 
 fn main(rt: HostRuntime) -> anyhow::Result<()> {
-    print_lines(&rt)
+    let mut rows = vec![in rt.alloc(); Row::BLANK; MOST_ROWS]?;
+    let mut room = vec![in rt.alloc(); 0u8; MOST_ROOM]?;
+    for line in BufReader::new(rt.alloc(), rt.stdin())?.lines(rt.alloc()) {
+        print_line(&rt, line?.as_str(), &mut rows, &mut room)?;
+    }
+    Ok(())
 }

@@ -5,15 +5,11 @@ ghost use Rattle.facts.specs.Laws.{HeadsSpeak};
 ghost use Rattle.head_laws.specs.Examples.{Examples};
 
 // A head speaks for its store.
-pub fn heads_stand() -> u8
+pub fn heads_stand()
     ensures { HeadsSpeak }
-{
-    0
-}
+{}
 
 // Keys, ids, texts, a table and two heads.
-pub fn examples_stand() -> u8
+pub fn examples_stand()
     ensures { Examples }
-{
-    0
-}
+{}

@@ -44,6 +44,8 @@ fn print_line(rt: &HostRuntime, line: &str) -> anyhow::Result<()> {
     let Some(image) = decode(rt.alloc(), text.as_bytes())? else {
         return Err(anyhow!("a line has no whole hexadecimal"));
     };
+    // Kept: this match is the parser itself, and each word opens a type of its own: an enum of the four words would be matched
+    // once more, with these same four arms, since no value stands for the type that an arm opens.
     match kind {
         "any" => print_opened(rt, Image::open(&image)),
         "file" => print_opened(rt, FileImage::open(&image)),
@@ -53,13 +55,9 @@ fn print_line(rt: &HostRuntime, line: &str) -> anyhow::Result<()> {
     }
 }
 
-fn print_lines(rt: &HostRuntime) -> anyhow::Result<()> {
+fn main(rt: HostRuntime) -> anyhow::Result<()> {
     for line in BufReader::new(rt.alloc(), rt.stdin())?.lines(rt.alloc()) {
-        print_line(rt, line?.as_str())?;
+        print_line(&rt, line?.as_str())?;
     }
     Ok(())
-}
-
-fn main(rt: HostRuntime) -> anyhow::Result<()> {
-    print_lines(&rt)
 }

@@ -13,9 +13,20 @@ impl fmt::Display for InWords<Refusal> {
     }
 }
 
-pub fn print_fault(rt: &HostRuntime, refusal: Refusal) -> io::Result<()> {
-    let refused = InWords(refusal);
-    println!(rt; ": {refused}")
+// What an answer says, if anything; else the section's line is ended: with the refusal, if it is one.
+pub fn said<T: Copy>(
+    rt: &HostRuntime,
+    answer: Result<Option<T>, Refusal>,
+) -> io::Result<Option<T>> {
+    match answer {
+        Ok(Some(fact)) => return Ok(Some(fact)),
+        Ok(None) => println!(rt; "")?,
+        Err(refusal) => {
+            let refused = InWords(refusal);
+            println!(rt; ": {refused}")?;
+        }
+    }
+    Ok(None)
 }
 
 // The answer to a question, if the section says anything.
@@ -23,12 +34,9 @@ pub fn print_answer<T: Copy>(rt: &HostRuntime, answer: Result<Option<T>, Refusal
 where
     InWords<T>: fmt::Display,
 {
-    match answer {
-        Ok(Some(fact)) => {
-            let words = InWords(fact);
-            println!(rt; ": {words}")
-        }
-        Ok(None) => println!(rt; ""),
-        Err(refusal) => print_fault(rt, refusal),
-    }
+    let Some(fact) = said(rt, answer)? else {
+        return Ok(());
+    };
+    let words = InWords(fact);
+    println!(rt; ": {words}")
 }

@@ -7,7 +7,7 @@ mod printable;
 mod tables;
 mod words;
 
-use answer::{print_answer, print_fault};
+use answer::{print_answer, said};
 use fixed_facts::perf_file::{
     clock_data, clock_frequency, compression_info, is_stats, nr_cpus, sample_time_range, total_mem,
 };
@@ -27,22 +27,20 @@ use words::InWords;
 // No image is longer. One byte more is read, which tells that the input is.
 const LONGEST_IMAGE: u64 = 16_777_216;
 
+// Each word has its own space in front, so that a list of no words ends its line with the colon.
 fn print_words(
     rt: &HostRuntime,
     answer: Result<Option<StringList<'_>>, Refusal>,
 ) -> io::Result<()> {
-    match answer {
-        Ok(Some(words)) => {
-            print!(rt; ":")?;
-            for text in words {
-                let word = Word(text);
-                print!(rt; " {word}")?;
-            }
-            println!(rt; "")
-        }
-        Ok(None) => println!(rt; ""),
-        Err(refusal) => print_fault(rt, refusal),
+    let Some(words) = said(rt, answer)? else {
+        return Ok(());
+    };
+    print!(rt; ":")?;
+    for text in words {
+        let word = Word(text);
+        print!(rt; " {word}")?;
     }
+    println!(rt; "")
 }
 
 // What a section says, behind its length.

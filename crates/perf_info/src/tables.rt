@@ -1,5 +1,5 @@
 // Sections that are many entries: an entry a line, below the section's own.
-use crate::answer::print_fault;
+use crate::answer::said;
 use crate::words::InWords;
 use build_ids::builds::Builds;
 use build_ids::perf_file::build_ids;
@@ -34,22 +34,15 @@ fn print_count(
     answer: Result<Option<usize>, Refusal>,
     entries: &str,
 ) -> io::Result<usize> {
-    match answer {
-        Err(refusal) => {
-            print_fault(rt, refusal)?;
-            Ok(0)
-        }
-        Ok(None) => {
-            println!(rt; "")?;
-            Ok(0)
-        }
-        Ok(Some(used)) => {
-            println!(rt; ": {used} {entries}")?;
-            Ok(used)
-        }
-    }
+    let Some(used) = said(rt, answer)? else {
+        return Ok(0);
+    };
+    println!(rt; ": {used} {entries}")?;
+    Ok(used)
 }
 
+// Kept: one function for the three tables, with a closure for an entry's line, was tried: the borrow checker does not cover
+// a closure that holds the store and is passed on, since nothing in the bound fixes the lifetime of the store's sections.
 pub fn print_pmus<'a, S: Store<'a>>(rt: &HostRuntime, store: &S, len: usize) -> io::Result<()> {
     let mut rows = rows_for(rt, len)?;
     let used = print_count(rt, pmu_mappings(store, &mut rows), "names")?;
@@ -110,16 +103,13 @@ fn print_file(rt: &HostRuntime, file: SimpleperfFileRecord<'_>) -> io::Result<()
 }
 
 pub fn print_symbols<'a, S: Store<'a>>(rt: &HostRuntime, store: &S) -> io::Result<()> {
-    match symbol_tables(store) {
-        Err(refusal) => print_fault(rt, refusal),
-        Ok(None) => println!(rt; ""),
-        Ok(Some(tables)) => {
-            let files = tables.count();
-            println!(rt; ": {files} files")?;
-            for file in tables {
-                print_file(rt, file)?;
-            }
-            Ok(())
-        }
+    let Some(tables) = said(rt, symbol_tables(store))? else {
+        return Ok(());
+    };
+    let files = tables.count();
+    println!(rt; ": {files} files")?;
+    for file in tables {
+        print_file(rt, file)?;
     }
+    Ok(())
 }

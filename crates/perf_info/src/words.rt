@@ -22,10 +22,8 @@ impl fmt::Display for InWords<Kind> {
 
 impl fmt::Display for InWords<ByteOrder> {
     fn fmt<W: fmt::Write>(&self, f: &mut fmt::Formatter<W>) -> fmt::Result {
-        f.write_str(match self.0 {
-            ByteOrder::Little => "little-endian",
-            ByteOrder::Big => "big-endian",
-        })
+        let order = self.0;
+        write!(f, "{order}-endian")
     }
 }
 

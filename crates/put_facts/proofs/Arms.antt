@@ -19,9 +19,6 @@ module _ {f v : Carried} (is : f ≡ v) where
   pub writes_at : {before after : Writer} {r : Result Bool Refusal} (n : ℕ) (o : ByteOrder) (at : Sections) → Writes (in_bytes (answer n o at v)) before r after → Writes (in_bytes (answer n o at f)) before r after
   writes_at n o at w = writes_same (ap (λ x. in_bytes (answer n o at x)) (sym is)) w
 
-  pub rows_at : {left : List Row} (rows : List Row) → left ≡ rows_after v rows → left ≡ rows_after f rows
-  rows_at rows e = e ∙ ap (λ x. rows_after x rows) (sym is)
-
 -- A feature that is a header text, whichever of them.
 abbrev IsText : Carried → Type 0
 IsText f = ((n : ℕ) → read n f ≡ (λ o s. fact_of text (feature_string (number f) o s))) × ((rows : List Row) → rows ≡ rows_after f rows)

@@ -41,6 +41,8 @@ pub fn put_fact<'a, S: Store<'a>>(
     ensures writes { Writes (in_bytes (answer (length rows.old) (S.endian store.now) (S.map store.now).at feature)) w.old result w.new }
     ensures rows { rows.new ≡ rows_after feature rows.old }
 {
+    // Kept: a match by feature. The answers are of eight types, those of three features with rows beside them, so a closure
+    // for each feature would hold the call that its arm makes here, and would be picked by this very match.
     match feature {
         Carried::BuildId => {
             let used = build_ids(store, rows);

@@ -5,7 +5,9 @@ ghost use Rattle.facts.specs.Written.{u16, u32, text_bytes, ended, id_bytes};
 
 use put::Writer;
 
-// How many numbers there are of two bytes, and of four.
+// How many numbers there are of a byte, of two, and of four.
+const BYTE_NUMBERS: usize = 0x100;
+
 const SHORT_NUMBERS: usize = 0x1_0000;
 
 const WORD_NUMBERS: usize = 0x1_0000_0000;
@@ -40,14 +42,17 @@ pub(crate) fn put_ended(text: &[u8], w: &mut Writer<'_>)
     w.put(&[0]);
 }
 
+// The bytes that a record keeps for an id.
+const ID_LEN: usize = 20;
+
 // The zeros that stand behind an empty id.
-const ZEROS: [u8; 20] = [0; 20];
+const ZEROS: [u8; ID_LEN] = [0; ID_LEN];
 
 // An id in its 24 bytes: zeros up to the 20th, the id's length, three zeros.
 pub(crate) fn put_id(id: &[u8], w: &mut Writer<'_>)
     ensures { Appends (id_bytes id.now) w.old w.new }
 {
     w.put(id);
-    w.put(&ZEROS[..20usize.saturating_sub(id.len())]);
-    w.put(&[(id.len() % 256) as u8, 0, 0, 0]);
+    w.put(&ZEROS[..ID_LEN.saturating_sub(id.len())]);
+    w.put(&[(id.len() % BYTE_NUMBERS) as u8, 0, 0, 0]);
 }

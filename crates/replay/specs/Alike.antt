@@ -1,11 +1,12 @@
 -- When an answer of ours is taken for equal to the Rust's.
-use Rattle.std.specs.Prelude.{ℕ, Bool, true, false, cond, ◌||◌, List, length, take, codes}
+use Rattle.std.specs.Prelude.{ℕ, Bool, true, false, cond, ◌||◌, List, codes, ◌==◌}
+use Rattle.std.specs.List.{starts_with}
 use Rattle.std.specs.Str.{bytes_eq}
 use Rattle.replay.specs.declared.verdict.Verdict.{Verdict}
 use Rattle.replay.specs.declared.verdict.Verdict.TheVariants.{Equal, TooFewRows, TooMuchMemory, Other}
 
 abbrev pub begins : List ℕ → List ℕ → Bool
-begins front text = bytes_eq front (take (length front) text)
+begins front text = starts_with ◌==◌ text front
 
 -- The Rust's refusal has no number and no place, so any refusal of ours is equal to it; every other answer is the same
 -- byte for byte.

@@ -6,20 +6,20 @@ mod tally;
 mod verdict;
 
 use answers::{all_rows, answer};
-use anyhow::anyhow;
+use anyhow::{Context, anyhow};
 use std::io::{BufRead, BufReader};
 use table::row::Row;
 use tally::Tally;
 use verdict::{Verdict, judge};
 
 fn replay_line(rt: &HostRuntime, line: &str, rows: &mut [Row]) -> anyhow::Result<Verdict> {
-    let Some((question, theirs)) = line.split_once('\t') else {
-        return Err(anyhow!("a line without an answer of the Rust"));
-    };
+    let (question, theirs) = line
+        .split_once('\t')
+        .context("a line without an answer of the Rust")?;
     let text = answer(rt.alloc(), question, rows)?;
     let ours = text.as_str();
     let found = judge(question, ours, theirs);
-    if let Verdict::Other = found {
+    if found == Verdict::Other {
         println!(rt; "{question}\n    ours:   {ours}\n    theirs: {theirs}")?;
     }
     Ok(found)

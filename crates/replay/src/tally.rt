@@ -47,13 +47,14 @@ impl Tally {
 
 impl fmt::Display for Tally {
     fn fmt<W: fmt::Write>(&self, f: &mut fmt::Formatter<W>) -> fmt::Result {
-        let equal = self.equal;
-        let too_few_rows = self.too_few_rows;
-        let too_much_memory = self.too_much_memory;
-        let others = self.others;
-        writeln!(f, "{equal} equal")?;
-        writeln!(f, "{too_few_rows} not comparable: too few rows")?;
-        writeln!(f, "{too_much_memory} known difference: too much memory")?;
-        writeln!(f, "{others} other differences")
+        for (count, verdict) in [
+            (self.equal, Verdict::Equal),
+            (self.too_few_rows, Verdict::TooFewRows),
+            (self.too_much_memory, Verdict::TooMuchMemory),
+            (self.others, Verdict::Other),
+        ] {
+            writeln!(f, "{count} {verdict}")?;
+        }
+        Ok(())
     }
 }

@@ -18,15 +18,20 @@ pub struct Group {
     len: usize,
 }
 
-// The bytes are cut into strips of one length. There are 64 at most.
+const MOST_STRIPS: usize = 64;
+
+// The bytes are cut into strips of one length, as many as they have room for, up to the most.
 #[derive(Drop)]
 pub struct Shelf {
     strip: usize,
+    // Kept: `(bytes.len() / strip).min(MOST_STRIPS)` is this number too, but only with a case of its own for a refused shelf,
+    // whose strip is 0.
     strips: usize,
     // the number that the next new group gets, until they are used up
     next: Option<u32>,
-    // the group of each strip that is not free
-    groups: [Option<Group>; 64],
+    // The group of each strip that is not free.
+    // Kept: a `Vec` would need heap, which the library does not ask for; it keeps the caller's bytes and makes none.
+    groups: [Option<Group>; MOST_STRIPS],
     bytes: Vec<u8>,
 }
 

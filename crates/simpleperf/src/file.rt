@@ -13,6 +13,8 @@ use crate::types::DsoType;
 use wire::refusal::Refusal;
 
 // A file that the recording saw, with its symbols. All of it lies in the section.
+// Kept: the type beside what is said by the type. A record has the type before its symbols and the rest behind them, and
+// three of the six types say nothing there. One enum of both would be made last, so the type would need its own until then.
 #[derive(Clone, Copy)]
 pub struct SimpleperfFileRecord<'a> {
     pub path: &'a str,
@@ -26,12 +28,9 @@ fn read_type(reader: Reader, bytes: &[u8]) -> Result<(DsoType, &[u8]), Refusal>
     ensures { got_of type_number result ≡ type_in reader.order reader.size bytes.now }
 {
     let (number, rest) = reader.u32(bytes)?;
-    match DsoType::try_from(number) {
-        Ok(file_type) => Ok((file_type, rest)),
-        Err(_) => Err(Refusal::UnknownFileType {
-            at: reader.offset(bytes),
-        }),
-    }
+    let at = reader.offset(bytes);
+    let file_type = DsoType::try_from(number).or(Err(Refusal::UnknownFileType { at }))?;
+    Ok((file_type, rest))
 }
 
 // The record that so many bytes are, all of it looked at, and what follows its tail.

@@ -16,10 +16,10 @@ use wire::refusal::Refusal;
 pub fn symbol_tables<'a, S: Store<'a>>(store: &S) -> Result<Option<SymbolTables<'a>>, Refusal>
     ensures { answered files_of result ≡ question symbol_tables (S.endian store.now) ((S.map store.now).at 128) }
 {
-    match store.section(SIMPLEPERF_FILE) {
-        None => Ok(None),
-        Some(section) => Ok(Some(read_tables(store.order(), section)?)),
-    }
+    let Some(section) = store.section(SIMPLEPERF_FILE) else {
+        return Ok(None);
+    };
+    Ok(Some(read_tables(store.order(), section)?))
 }
 
 // One of these files, by its number from 0; none past the last.
@@ -29,10 +29,10 @@ pub fn symbol_table<'a, S: Store<'a>>(
 ) -> Result<Option<SimpleperfFileRecord<'a>>, Refusal>
     ensures { answered file_of result ≡ one_of k (question symbol_tables (S.endian store.now) ((S.map store.now).at 128)) }
 {
-    match symbol_tables(store)? {
-        None => Ok(None),
-        Some(mut tables) => Ok(tables.nth(k)),
-    }
+    let Some(mut tables) = symbol_tables(store)? else {
+        return Ok(None);
+    };
+    Ok(tables.nth(k))
 }
 
 // One of the symbols of such a file, by its number from 0; none past the last.
@@ -43,13 +43,11 @@ pub fn symbol<'a, S: Store<'a>>(
 ) -> Result<Option<SimpleperfSymbol<'a>>, Refusal>
     ensures { answered symbol_of result ≡ of_file (symbol_at i) (one_of k (question symbol_tables (S.endian store.now) ((S.map store.now).at 128))) }
 {
-    match symbol_table(store, k)? {
-        None => Ok(None),
-        Some(file) => {
-            let mut symbols = file.symbol;
-            Ok(symbols.nth(i))
-        }
-    }
+    let Some(file) = symbol_table(store, k)? else {
+        return Ok(None);
+    };
+    let mut symbols = file.symbol;
+    Ok(symbols.nth(i))
 }
 
 // One of its dex offsets, by its number from 0; none past the last, and of another file none.

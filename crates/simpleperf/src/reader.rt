@@ -1,7 +1,8 @@
 // The numbers and texts that symbol records are made of.
 ghost use Rattle.std.specs.Prelude.{◌≡◌, ◌-◌, length};
-ghost use Rattle.simpleperf.specs.Got.{number_got, text_got};
-ghost use Rattle.simpleperf.specs.Tables.{u32_in, u64_in, text_in, count_in};
+ghost use Rattle.simpleperf.specs.Got.{got_of, number_got, text_got};
+ghost use Rattle.simpleperf.specs.Parse.{read_number};
+ghost use Rattle.simpleperf.specs.Tables.{fault_at, u32_in, u64_in, text_in, count_in};
 
 use std::str::from_utf8_unchecked;
 use text::pieces::well_formed;
@@ -25,26 +26,30 @@ impl Reader {
         (self.size as usize).saturating_sub(left.len()) as u32
     }
 
+    // The number of so many bytes that these begin with, and the bytes behind it; none where they are too few.
+    fn behind<T: Copy>(
+        self,
+        number: Option<T>,
+        width: usize,
+        bytes: &[u8],
+    ) -> Result<(T, &[u8]), Refusal>
+        ensures { got_of (λ n. n) result ≡ read_number (fault_at 11 self.size bytes.now) width bytes.now number }
+    {
+        let at = self.offset(bytes);
+        let n = number.ok_or(Refusal::SymbolRecordCutShort { at })?;
+        Ok((n, tail(bytes, width)))
+    }
+
     pub(crate) fn u32(self, bytes: &[u8]) -> Result<(u32, &[u8]), Refusal>
         ensures { number_got result ≡ u32_in self.order self.size bytes.now }
     {
-        let at = self.offset(bytes);
-        let n = self
-            .order
-            .u32(bytes)
-            .ok_or(Refusal::SymbolRecordCutShort { at })?;
-        Ok((n, tail(bytes, 4)))
+        self.behind(self.order.u32(bytes), 4, bytes)
     }
 
     pub(crate) fn u64(self, bytes: &[u8]) -> Result<(u64, &[u8]), Refusal>
         ensures { number_got result ≡ u64_in self.order self.size bytes.now }
     {
-        let at = self.offset(bytes);
-        let n = self
-            .order
-            .u64(bytes)
-            .ok_or(Refusal::SymbolRecordCutShort { at })?;
-        Ok((n, tail(bytes, 8)))
+        self.behind(self.order.u64(bytes), 8, bytes)
     }
 
     // A text that ends before its NUL.

@@ -54,6 +54,8 @@ fn check_files(reader: Reader, section: &[u8]) -> Result<(), Refusal>
     ensures { fault_in result ≡ first_fault (run (sized_file reader.order reader.size) section.now) }
 {
     let mut rest = section;
+    // Kept: how long a record is stands in the record, so neither a range nor chunks give its bytes. `SymbolTables` stops at
+    // a fault without telling it, and this walk is there to tell it.
     while !rest.is_empty() {
         let (_, after) = Files::read(reader, rest)?;
         rest = after;

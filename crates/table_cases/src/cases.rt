@@ -16,10 +16,9 @@ const DIRTY: Row = Row {
 fn number(number: u32, value_at: u32) -> Row {
     Row {
         number,
-        key_at: 0,
-        key_len: 0,
         value_at,
         value_len: 1,
+        ..Row::BLANK
     }
 }
 
@@ -38,9 +37,7 @@ fn later_of_equal_keys_stands(rt: HostRuntime) {
     let given = [number(5, 0), number(2, 1), number(5, 2), number(2, 3)];
     let mut rows = [DIRTY; 3];
     assert_eq!(rt; tabulate(&Numbers, &mut rows, &given), Some(2));
-    assert_eq!(rt; rows[0], number(2, 3));
-    assert_eq!(rt; rows[1], number(5, 2));
-    assert_eq!(rt; rows[2], Row::BLANK);
+    assert_eq!(rt; rows, [number(2, 3), number(5, 2), Row::BLANK]);
 }
 
 #[test]
@@ -56,12 +53,17 @@ fn beginning_comes_before_extension(rt: HostRuntime) {
     ];
     let mut rows = [DIRTY; 6];
     assert_eq!(rt; tabulate(&Texts { section }, &mut rows, &given), Some(6));
-    assert_eq!(rt; rows[0], text(0, 0, 5));
-    assert_eq!(rt; rows[1], text(0, 2, 3));
-    assert_eq!(rt; rows[2], text(0, 3, 1));
-    assert_eq!(rt; rows[3], text(3, 1, 4));
-    assert_eq!(rt; rows[4], text(4, 1, 2));
-    assert_eq!(rt; rows[5], text(5, 1, 0));
+    assert_eq!(rt;
+        rows,
+        [
+            text(0, 0, 5),
+            text(0, 2, 3),
+            text(0, 3, 1),
+            text(3, 1, 4),
+            text(4, 1, 2),
+            text(5, 1, 0),
+        ]
+    );
 }
 
 #[test]
@@ -91,8 +93,7 @@ fn as_many_rows_as_keys_and_one_too_few(rt: HostRuntime) {
         ),
         None
     );
-    assert_eq!(rt; rows[0], Row::BLANK);
-    assert_eq!(rt; rows[1], Row::BLANK);
+    assert_eq!(rt; rows, [Row::BLANK; 2]);
 }
 
 #[test]
@@ -115,18 +116,16 @@ fn rows_used_again(rt: HostRuntime) {
         ),
         Some(2)
     );
-    assert_eq!(rt; rows[0], number(0, 1));
-    assert_eq!(rt; rows[1], text(0, 2, 0));
-    assert_eq!(rt; rows[2], Row::BLANK);
-    assert!(rt; rows[1].key(section).len() == 2);
-    assert!(rt; DIRTY.value(section).len() == 0);
+    assert_eq!(rt; rows, [number(0, 1), text(0, 2, 0), Row::BLANK]);
+    assert_eq!(rt; rows[1].key(section).len(), 2);
+    assert!(rt; DIRTY.value(section).is_empty());
 }
 
 #[test]
 fn fault_comes_before_too_few_rows(rt: HostRuntime) {
     let mut rows = [DIRTY; 2];
     assert_eq!(rt; read(&mut rows, &[9, 4, 9]), Ok(2));
-    assert!(rt; rows[0].number == 4 && rows[1].number == 9);
+    assert_eq!(rt; rows.map(|row| row.number), [4, 9]);
     assert_eq!(rt; read(&mut rows, &[3, 2, 1, 2]), Err(Refused::TooFewRows));
     assert_eq!(rt; rows[1], Row::BLANK);
     assert_eq!(rt;

@@ -17,11 +17,8 @@ fn item(b: u8) -> Row
     ensures { result ≡ item_of b }
 {
     Row {
-        number: b as u32,
-        key_at: 0,
-        key_len: 0,
-        value_at: 0,
-        value_len: 0,
+        number: u32::from(b),
+        ..Row::BLANK
     }
 }
 
@@ -30,13 +27,12 @@ pub fn read(rows: &mut [Row], section: &[u8]) -> Result<usize, Refused>
     ensures after { rows.new ≡ left (length rows.old) section.now }
 {
     let mut fill = Fill::start(Numbers, rows);
-    for at in 0..section.len() {
-        let b = section[at];
-        if b == 255 {
+    for (at, b) in section.iter().enumerate() {
+        if *b == 255 {
             blank_all(rows);
             return Err(Refused::Fault { at });
         }
-        fill.add(item(b));
+        fill.add(item(*b));
     }
     fill.finish().ok_or(Refused::TooFewRows)
 }

@@ -60,9 +60,9 @@ pub fn read_string<'s>(
     let (Some(len), [_, _, _, _, rest @ ..]) = (order.u32(section), section) else {
         return Err(TextFault::ShortLength);
     };
-    let Some((field, after)) = rest.split_at_checked(len as usize) else {
-        return Err(TextFault::PastEnd);
-    };
+    let (field, after) = rest
+        .split_at_checked(len as usize)
+        .ok_or(TextFault::PastEnd)?;
     let text = before_nul(field);
     if !well_formed(text) {
         return Err(TextFault::IllFormed);

@@ -3,15 +3,19 @@ ghost use Rattle.std.specs.Prelude.{◌≡◌, true, vec_len};
 ghost use Rattle.facts.specs.Head.{outcome};
 ghost use Rattle.shelf.specs.Calls.{in_bounds, empty as empty_of, without as without_strips, open_answer, opening as opening_of};
 
-use super::Shelf;
 use super::changes::wipe;
+use super::{MOST_STRIPS, Shelf};
 use wire::refusal::Refusal;
+
+const SHORTEST_STRIP: usize = 5;
+
+const LONGEST_STRIP: usize = 65_536;
 
 // Whether the values handed in are within their bounds.
 fn in_bounds(strip: usize, first: u32, room: usize) -> bool
     ensures { result ≡ in_bounds strip first room }
 {
-    strip >= 5 && strip <= 65_536 && first >= 1 && strip <= room
+    (SHORTEST_STRIP..=LONGEST_STRIP).contains(&strip) && first >= 1 && strip <= room
 }
 
 impl Shelf {
@@ -20,13 +24,13 @@ impl Shelf {
         requires { in_bounds strip first (vec_len bytes) ≡ true }
         ensures { result ≡ empty_of strip first (vec_len bytes) }
     {
-        let strips = (bytes.len() / strip).min(64);
+        let strips = (bytes.len() / strip).min(MOST_STRIPS);
         wipe(&mut bytes);
         Shelf {
             strip,
             strips,
             next: Some(first),
-            groups: [None; 64],
+            groups: [None; MOST_STRIPS],
             bytes,
         }
     }
@@ -39,7 +43,7 @@ impl Shelf {
             strip: 0,
             strips: 0,
             next: Some(1),
-            groups: [None; 64],
+            groups: [None; MOST_STRIPS],
             bytes,
         }
     }

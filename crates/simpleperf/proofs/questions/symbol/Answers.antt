@@ -7,8 +7,8 @@ use Rattle.simpleperf.specs.Tables.{symbol_in}
 use Rattle.simpleperf.proofs.Views.{road, same}
 use Rattle.simpleperf.proofs.questions.symbol.Goals as goal
 
-pub returns-in-Some : goal.returns-in-Some
-returns-in-Some g c =
+pub returns : goal.returns
+returns g c =
     let found = nth_from_yields_List c.nth.result c.nth.new.self c.args.i c.nth.ensures.ran (road symbol_of symbol_in c.in-Some.file.symbol) in
     ap Ok (same symbol_of c.nth.result ∙ found)
-    ∙ ap (of_file (symbol_at c.args.i)) (ap (λ x. Ok (mapped file_of x)) (sym c.in-Some.is) ∙ c.in_ok-symbol_table.ensures)
+    ∙ ap (of_file (symbol_at c.args.i)) (ap (λ x. Ok (mapped file_of x)) (sym c.in-Some.is) ∙ c.in_ok-file.ensures)

@@ -7,8 +7,8 @@ use Rattle.simpleperf.specs.Tables.{sized_file}
 use Rattle.simpleperf.proofs.Views.{road, same}
 use Rattle.simpleperf.proofs.questions.symbol_table.Goals as goal
 
-pub returns-in-Some : goal.returns-in-Some
-returns-in-Some g c =
+pub returns : goal.returns
+returns g c =
     let found = nth_from_yields_List c.nth.result c.nth.new.self c.args.k c.nth.ensures.ran (road file_of sized_file c.in-Some.tables) in
     ap Ok (same file_of c.nth.result ∙ found)
-    ∙ ap (one_of c.args.k) (ap (λ x. Ok (mapped files_of x)) (sym c.in-Some.is) ∙ c.in_ok-symbol_tables.ensures)
+    ∙ ap (one_of c.args.k) (ap (λ x. Ok (mapped files_of x)) (sym c.in-Some.is) ∙ c.in_ok-tables.ensures)
