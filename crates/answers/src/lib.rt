@@ -23,6 +23,7 @@ use fixed_facts::perf_file::{
 use line::{Line, LineError};
 use mappings::meta_info::meta_info;
 use mappings::pmu_mappings::pmu_mappings;
+use perf_data::features::Feature;
 use perf_data::perf_file::{arch, cmdline, cpu_desc, cpu_id, hostname, os_release, perf_version};
 use question::Question;
 use rows::{MetaTable, PmuTable, used_rows};
@@ -43,19 +44,19 @@ pub fn all_rows(heap: Global) -> Result<Vec<Row>, AllocError>
 }
 
 fn write_pmu(out: &mut String, line: &Line, rows: &mut [Row]) -> Result<(), AllocError> {
-    let store = line.store(16);
+    let store = line.store(Feature::PMU_MAPPINGS);
     let used = pmu_mappings(&store, rows);
     write_answer(out, used_rows(used, PmuTable(store), rows))
 }
 
 fn write_meta(out: &mut String, line: &Line, rows: &mut [Row]) -> Result<(), AllocError> {
-    let store = line.store(129);
+    let store = line.store(Feature::SIMPLEPERF_META_INFO);
     let used = meta_info(&store, rows);
     write_answer(out, used_rows(used, MetaTable(store), rows))
 }
 
 fn write_builds(out: &mut String, line: &Line, rows: &mut [Row]) -> Result<(), AllocError> {
-    let used = build_ids(&line.store(2), rows);
+    let used = build_ids(&line.store(Feature::BUILD_ID), rows);
     let builds = Builds {
         section: line.bytes(),
     };
@@ -70,24 +71,41 @@ fn write_detect(out: &mut String, line: &Line) -> Result<(), AllocError> {
 
 fn write_line(out: &mut String, line: &Line, rows: &mut [Row]) -> Result<(), AllocError> {
     match line.question {
-        Question::Hostname => write_answer(out, hostname(&line.store(3))),
-        Question::OsRelease => write_answer(out, os_release(&line.store(4))),
-        Question::PerfVersion => write_answer(out, perf_version(&line.store(5))),
-        Question::Arch => write_answer(out, arch(&line.store(6))),
-        Question::CpuDesc => write_answer(out, cpu_desc(&line.store(8))),
-        Question::CpuId => write_answer(out, cpu_id(&line.store(9))),
-        Question::Cmdline => write_answer(out, cmdline(&line.store(11))),
-        Question::NrCpus => write_answer(out, nr_cpus(&line.store(7))),
-        Question::TotalMem => write_answer(out, total_mem(&line.store(10))),
-        Question::SampleTimeRange => write_answer(out, sample_time_range(&line.store(21))),
-        Question::ClockFrequency => write_answer(out, clock_frequency(&line.store(23))),
-        Question::CompressionInfo => write_answer(out, compression_info(&line.store(27))),
-        Question::ClockData => write_answer(out, clock_data(&line.store(29))),
-        Question::IsStats => { write_answer(out, Ok(is_stats(&line.store(19)).then_some(Present))) }
+        Question::Hostname => write_answer(out, hostname(&line.store(Feature::HOSTNAME))),
+        Question::OsRelease => write_answer(out, os_release(&line.store(Feature::OSRELEASE))),
+        Question::PerfVersion => write_answer(out, perf_version(&line.store(Feature::VERSION))),
+        Question::Arch => write_answer(out, arch(&line.store(Feature::ARCH))),
+        Question::CpuDesc => write_answer(out, cpu_desc(&line.store(Feature::CPUDESC))),
+        Question::CpuId => write_answer(out, cpu_id(&line.store(Feature::CPUID))),
+        Question::Cmdline => write_answer(out, cmdline(&line.store(Feature::CMDLINE))),
+        Question::NrCpus => write_answer(out, nr_cpus(&line.store(Feature::NRCPUS))),
+        Question::TotalMem => write_answer(out, total_mem(&line.store(Feature::TOTAL_MEM))),
+        Question::SampleTimeRange => write_answer(
+            out,
+            sample_time_range(&line.store(Feature::SAMPLE_TIME)),
+        ),
+        Question::ClockFrequency => write_answer(
+            out,
+            clock_frequency(&line.store(Feature::CLOCKID)),
+        ),
+        Question::CompressionInfo => write_answer(
+            out,
+            compression_info(&line.store(Feature::COMPRESSED)),
+        ),
+        Question::ClockData => write_answer(out, clock_data(&line.store(Feature::CLOCK_DATA))),
+        Question::IsStats => {
+            write_answer(
+                out,
+                Ok(is_stats(&line.store(Feature::STAT)).then_some(Present)),
+            )
+        }
         Question::PmuMappings => write_pmu(out, line, rows),
         Question::MetaInfo => write_meta(out, line, rows),
         Question::BuildIds => write_builds(out, line, rows),
-        Question::SymbolTables => write_answer(out, symbol_tables(&line.store(128))),
+        Question::SymbolTables => write_answer(
+            out,
+            symbol_tables(&line.store(Feature::SIMPLEPERF_FILE)),
+        ),
         Question::Detect => write_detect(out, line),
         Question::Shown => write_shown(out, line.bytes()),
     }

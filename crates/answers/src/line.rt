@@ -2,10 +2,12 @@
 use crate::MOST_ROWS;
 use crate::question::{Question, UnknownQuestion};
 use hexadecimal::decode;
+use perf_data::features::Feature;
 use section_store::SectionStore;
 use std::alloc::{AllocError, Global};
 use std::num::ParseIntError;
 use wire::order::ByteOrder;
+use wire::refusal::NO_FEATURE;
 
 #[derive(Drop)]
 pub struct Line {
@@ -92,9 +94,13 @@ impl Line {
         }
     }
 
-    // The section, as that of a feature; or a store with none, since no feature has the number 256.
-    pub(crate) fn store(&self, feature: u32) -> SectionStore<'_> {
-        let feature = if self.section.is_some() { feature } else { 256 };
-        SectionStore::new(self.order, feature, self.bytes())
+    // The section, as that of a feature; or a store with none, since no feature has the number `NO_FEATURE`.
+    pub(crate) fn store(&self, feature: Feature) -> SectionStore<'_> {
+        let number = if self.section.is_some() {
+            feature.0
+        } else {
+            NO_FEATURE
+        };
+        SectionStore::new(self.order, number, self.bytes())
     }
 }

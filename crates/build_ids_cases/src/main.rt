@@ -18,12 +18,10 @@ use section_store::SectionStore;
 use std::io::{BufRead, BufReader};
 use table::row::Row;
 use wire::order::ByteOrder;
+use wire::refusal::NO_FEATURE;
 
 // The feature that build ids are of.
 const BUILD_ID: u32 = 2;
-
-// No feature has this number, so a store of it has no section.
-const NO_FEATURE: u32 = 256;
 
 fn print_key(rt: &HostRuntime, misc: u16, path: &[u8]) -> anyhow::Result<()> {
     let mode = CpuMode::of_misc(misc);
@@ -103,21 +101,21 @@ fn print_line(rt: &HostRuntime, line: &str) -> anyhow::Result<()> {
     };
     let mut words = words.split(' ');
     let (what, first, second) = (words.next(), words.next(), words.next());
-    // Kept: this match is the parser itself; an enum of the four lines would be matched once more, with the same four arms.
+    // Kept: this match is the parser itself; an enum of the kinds of lines would be matched once more, with the same arms.
     match (what, first, second) {
         (Some("key"), Some(misc), None) => print_key(rt, misc.parse::<u16>()?, &bytes),
         (Some("name"), Some(misc), Some(room)) => {
             print_name(rt, misc.parse::<u16>()?, room.parse::<usize>()?, &bytes)
         }
-        (Some("section"), Some(order), Some(room)) => {
+        (Some(what), Some(order), Some(room)) => {
             let order = order.parse().unwrap_or(ByteOrder::Little);
-            let store = SectionStore::new(order, BUILD_ID, &bytes);
-            print_section(rt, store, room.parse::<usize>()?)
-        }
-        // absent
-        (Some(_), Some(order), Some(room)) => {
-            let order = order.parse().unwrap_or(ByteOrder::Little);
-            let store = SectionStore::new(order, NO_FEATURE, &bytes);
+            // a store of no feature has no section
+            let feature = if what == "section" {
+                BUILD_ID
+            } else {
+                NO_FEATURE
+            };
+            let store = SectionStore::new(order, feature, &bytes);
             print_section(rt, store, room.parse::<usize>()?)
         }
         _ => Err(anyhow!("a line is a key, a name or a section")),
