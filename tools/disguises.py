@@ -190,3 +190,12 @@ class Disguise:
         """A head image whose sections are not in their settled form; it is little-endian."""
         assert self.order == "le"
         return images.head_image(*[images.entry(*each) for each in sorted(self.sections(recording).items())])
+
+
+def kinds(recording, rng):
+    """A recording in each kind of image and each order."""
+    for order in ("le", "be"):
+        disguise = Disguise(rng, order)
+        yield disguise.file(recording)
+        yield disguise.pipe(recording)
+    yield Disguise(rng, "le").head(recording)

@@ -21,7 +21,7 @@ import random
 
 import heads
 import images
-from disguises import NOT_CARRIED, RECORDINGS, SIGN, Disguise
+from disguises import NOT_CARRIED, RECORDINGS, SIGN, kinds
 from heads import QUESTIONS
 from images import entry, feature, file_image, head_image, pipe_image
 from lines import Build, damaged, random_section
@@ -29,15 +29,6 @@ from lines import Build, damaged, random_section
 FILE, PIPE = pathlib.Path("crates/perf_info/stdin"), pathlib.Path("samples/recording.pipe")
 ROWS, ROOM = 64, 4_096
 MOST_ROOM = 70_000
-
-
-def kinds(recording, rng):
-    """A recording in each kind of image and each order."""
-    for order in ("le", "be"):
-        disguise = Disguise(rng, order)
-        yield disguise.file(recording)
-        yield disguise.pipe(recording)
-    yield Disguise(rng, "le").head(recording)
 
 
 def rows_of(image):

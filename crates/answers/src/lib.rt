@@ -13,20 +13,16 @@ mod texts;
 mod told;
 
 use build_ids::builds::Builds;
-use build_ids::perf_file::build_ids;
-use dso_key::cpu_mode::CpuMode;
 use dso_key::dso_key::DsoKey;
 use facts::Present;
 use fixed_facts::perf_file::{
     clock_data, clock_frequency, compression_info, is_stats, nr_cpus, sample_time_range, total_mem,
 };
 use line::{Line, LineError};
-use mappings::meta_info::meta_info;
-use mappings::pmu_mappings::pmu_mappings;
 use perf_data::features::Feature;
 use perf_data::perf_file::{arch, cmdline, cpu_desc, cpu_id, hostname, os_release, perf_version};
 use question::Question;
-use rows::{MetaTable, PmuTable, used_rows};
+use rows::{BuildTable, MetaTable, PmuTable, Table, used_rows};
 use simpleperf::questions::symbol_tables;
 use std::alloc::{AllocError, Global};
 use table::row::Row;
@@ -43,30 +39,9 @@ pub fn all_rows(heap: Global) -> Result<Vec<Row>, AllocError>
     vec![in heap; Row::BLANK; MOST_ROWS as usize]
 }
 
-fn write_pmu(out: &mut String, line: &Line, rows: &mut [Row]) -> Result<(), AllocError> {
-    let store = line.store(Feature::PMU_MAPPINGS);
-    let used = pmu_mappings(&store, rows);
-    write_answer(out, used_rows(used, PmuTable(store), rows))
-}
-
-fn write_meta(out: &mut String, line: &Line, rows: &mut [Row]) -> Result<(), AllocError> {
-    let store = line.store(Feature::SIMPLEPERF_META_INFO);
-    let used = meta_info(&store, rows);
-    write_answer(out, used_rows(used, MetaTable(store), rows))
-}
-
-fn write_builds(out: &mut String, line: &Line, rows: &mut [Row]) -> Result<(), AllocError> {
-    let used = build_ids(&line.store(Feature::BUILD_ID), rows);
-    let builds = Builds {
-        section: line.bytes(),
-    };
-    write_answer(out, used_rows(used, builds, rows))
-}
-
-// The place of the rows holds the misc.
-fn write_detect(out: &mut String, line: &Line) -> Result<(), AllocError> {
-    let mode = CpuMode::from(line.rows % 8);
-    write_answer(out, Ok(DsoKey::detect(line.bytes(), mode)))
+fn write_table<T: Table>(out: &mut String, table: T, rows: &mut [Row]) -> Result<(), AllocError> {
+    let used = table.read(rows);
+    write_answer(out, used_rows(used, table, rows))
 }
 
 fn write_line(out: &mut String, line: &Line, rows: &mut [Row]) -> Result<(), AllocError> {
@@ -99,29 +74,40 @@ fn write_line(out: &mut String, line: &Line, rows: &mut [Row]) -> Result<(), All
                 Ok(is_stats(&line.store(Feature::STAT)).then_some(Present)),
             )
         }
-        Question::PmuMappings => write_pmu(out, line, rows),
-        Question::MetaInfo => write_meta(out, line, rows),
-        Question::BuildIds => write_builds(out, line, rows),
+        Question::PmuMappings => {
+            write_table(out, PmuTable(line.store(Feature::PMU_MAPPINGS)), rows)
+        }
+        Question::MetaInfo => {
+            write_table(
+                out,
+                MetaTable(line.store(Feature::SIMPLEPERF_META_INFO)),
+                rows,
+            )
+        }
+        Question::BuildIds => {
+            let store = line.store(Feature::BUILD_ID);
+            let builds = Builds {
+                section: line.bytes(),
+            };
+            write_table(out, BuildTable { store, builds }, rows)
+        }
         Question::SymbolTables => write_answer(
             out,
             symbol_tables(&line.store(Feature::SIMPLEPERF_FILE)),
         ),
-        Question::Detect => write_detect(out, line),
+        Question::Detect => write_answer(out, Ok(DsoKey::detect(line.bytes(), line.cpu_mode()))),
         Question::Shown => write_shown(out, line.bytes()),
     }
 }
 
-// The first of the rows, as many as a question asks for.
-fn lent(rows: &mut [Row], wanted: u32) -> &mut [Row] {
-    let n = rows.len().min(wanted as usize);
-    &mut rows[0..n]
-}
-
-// The answer to a question; the rows are for its table.
+// The answer to a question; the rows are for its table, as many of them as it asks for.
 pub fn answer(heap: Global, question: &str, rows: &mut [Row]) -> Result<String, AllocError> {
     let mut out = String::new(heap);
     match Line::read(heap, question) {
-        Ok(line) => write_line(&mut out, &line, lent(rows, line.rows))?,
+        Ok(line) => {
+            let lent = line.rows().min(rows.len());
+            write_line(&mut out, &line, &mut rows[..lent])?;
+        }
         Err(LineError::Bad) => write!(out, "bad line")?,
         Err(LineError::Memory(error)) => return Err(error),
     }

@@ -1,6 +1,7 @@
-// A line, taken apart: QUESTION ORDER ROWS SECTION.
+// A line, taken apart: QUESTION ORDER ROWS SECTION, where `detect` has the misc in the place of the rows.
 use crate::MOST_ROWS;
 use crate::question::{Question, UnknownQuestion};
+use dso_key::cpu_mode::CpuMode;
 use hexadecimal::decode;
 use perf_data::features::Feature;
 use section_store::SectionStore;
@@ -12,10 +13,9 @@ use wire::refusal::NO_FEATURE;
 #[derive(Drop)]
 pub struct Line {
     pub question: Question,
-    pub order: ByteOrder,
-    // also the misc of `detect`
-    pub rows: u32,
-    pub section: Option<Vec<u8>>,
+    order: ByteOrder,
+    number: u32,
+    section: Option<Vec<u8>>,
 }
 
 // Why there is no line.
@@ -54,12 +54,13 @@ fn order_of(word: &str) -> Result<ByteOrder, LineError> {
     }
 }
 
-fn rows_of(word: &str) -> Result<u32, LineError> {
-    let rows = word.parse::<u32>()?;
-    if rows > MOST_ROWS {
+// The number in the place of the rows.
+fn number_of(word: &str) -> Result<u32, LineError> {
+    let number = word.parse::<u32>()?;
+    if number > MOST_ROWS {
         return Err(LineError::Bad);
     }
-    Ok(rows)
+    Ok(number)
 }
 
 fn section_of(heap: Global, word: &str) -> Result<Option<Vec<u8>>, LineError> {
@@ -77,13 +78,23 @@ impl Line {
     pub(crate) fn read(heap: Global, text: &str) -> Result<Line, LineError> {
         let (question, rest) = text.split_once(' ').ok_or(LineError::Bad)?;
         let (order, rest) = rest.split_once(' ').ok_or(LineError::Bad)?;
-        let (rows, section) = rest.split_once(' ').ok_or(LineError::Bad)?;
+        let (number, section) = rest.split_once(' ').ok_or(LineError::Bad)?;
         Ok(Line {
             question: question.parse::<Question>()?,
             order: order_of(order)?,
-            rows: rows_of(rows)?,
+            number: number_of(number)?,
             section: section_of(heap, section)?,
         })
+    }
+
+    // How many rows a question for a table is lent.
+    pub(crate) fn rows(&self) -> usize {
+        self.number as usize
+    }
+
+    // The mode of a question for a key.
+    pub(crate) fn cpu_mode(&self) -> CpuMode {
+        CpuMode::from(self.number % 8)
     }
 
     // The section's bytes; none where it is absent.

@@ -11,6 +11,7 @@ pub(crate) fn write_key(
 ) -> Result<(), AllocError> {
     let kind = key.kind();
     write!(out, "{kind}{between}x")?;
+    // Kept: `Hex` shows its bytes through a reference, over and over, and this iterator can be run once and not copied.
     for byte in key.name() {
         write!(out, "{byte:02x}")?;
     }

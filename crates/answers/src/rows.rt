@@ -2,16 +2,20 @@
 use crate::names::write_key;
 use crate::told::Told;
 use build_ids::builds::Builds;
+use build_ids::perf_file::build_ids;
 use hexadecimal::Hex;
-use mappings::meta_info::meta_entry;
-use mappings::pmu_mappings::pmu_entry;
+use mappings::meta_info::{meta_entry, meta_info};
+use mappings::pmu_mappings::{pmu_entry, pmu_mappings};
 use section_store::SectionStore;
 use std::alloc::AllocError;
 use table::row::Row;
 use wire::refusal::Refusal;
 
-// A table, by how one of its rows is written.
+// A table, by how its rows are read and how one of them is written.
 pub trait Table: Copy {
+    // How many rows are used, if the table is there.
+    fn read(self, rows: &mut [Row]) -> Result<Option<usize>, Refusal>;
+
     fn write_row(self, out: &mut String, row: &Row) -> Result<(), AllocError>;
 }
 
@@ -19,6 +23,10 @@ pub trait Table: Copy {
 pub struct PmuTable<'a>(pub SectionStore<'a>);
 
 impl Table for PmuTable<'_> {
+    fn read(self, rows: &mut [Row]) -> Result<Option<usize>, Refusal> {
+        pmu_mappings(&self.0, rows)
+    }
+
     fn write_row(self, out: &mut String, row: &Row) -> Result<(), AllocError> {
         let Some(entry) = pmu_entry(&self.0, row) else {
             return Ok(());
@@ -33,6 +41,10 @@ impl Table for PmuTable<'_> {
 pub struct MetaTable<'a>(pub SectionStore<'a>);
 
 impl Table for MetaTable<'_> {
+    fn read(self, rows: &mut [Row]) -> Result<Option<usize>, Refusal> {
+        meta_info(&self.0, rows)
+    }
+
     fn write_row(self, out: &mut String, row: &Row) -> Result<(), AllocError> {
         let Some(entry) = meta_entry(&self.0, row) else {
             return Ok(());
@@ -43,15 +55,26 @@ impl Table for MetaTable<'_> {
     }
 }
 
-impl Table for Builds<'_> {
+#[derive(Clone, Copy)]
+pub struct BuildTable<'a> {
+    pub store: SectionStore<'a>,
+    pub builds: Builds<'a>,
+}
+
+impl Table for BuildTable<'_> {
+    fn read(self, rows: &mut [Row]) -> Result<Option<usize>, Refusal> {
+        build_ids(&self.store, rows)
+    }
+
     fn write_row(self, out: &mut String, row: &Row) -> Result<(), AllocError> {
-        let Some(key) = self.key(row) else {
+        let builds = self.builds;
+        let Some(key) = builds.key(row) else {
             return Ok(());
         };
         write!(out, " ")?;
         write_key(out, key, ":")?;
-        let path = Hex(self.path(row));
-        let id = Hex(self.id(row));
+        let path = Hex(builds.path(row));
+        let id = Hex(builds.id(row));
         write!(out, ":x{path}:x{id}")
     }
 }

@@ -27,6 +27,7 @@ impl Told for StringList<'_> {
 // Any bytes, as they are shown.
 pub(crate) fn write_shown(out: &mut String, bytes: &[u8]) -> Result<(), AllocError> {
     write!(out, "text x")?;
+    // Kept: for the reason at the name of a key (names.rt).
     for byte in Shown::new(bytes) {
         write!(out, "{byte:02x}")?;
     }

@@ -2,6 +2,7 @@
 use Rattle.std.proofs.Common.{◌≡◌, ℕ, ◌+◌, List, [], ◌∷◌, ◌++◌, drop, Some, None, Option, sym, ap, ◌∙◌, append_assoc, append-nil}
 use Rattle.std.proofs.lemmas.List.{drop-drop}
 use Rattle.wire.specs.declared.order.ByteOrder.{ByteOrder}
+use Rattle.image.specs.declared.section.Section.{Section}
 use Rattle.table.specs.declared.row.Row.{Row}
 use Rattle.build_ids.specs.Events.{Event, event, records}
 use Rattle.build_ids.specs.Table.{keep}
@@ -9,8 +10,8 @@ use Rattle.build_ids.specs.Rows.{row_of, rows_from}
 use Rattle.build_ids.proofs.Reading.{records-end, records-more}
 
 -- what a cursor at the offset gives is at the offset
-pub here : {o p : ByteOrder} {s t : List ℕ} {at on : ℕ} (x : Option Event) → p ≡ o → t ≡ s → at ≡ on → event p (drop on t) ≡ x → event o (drop at s) ≡ x
-here x q r e h = (λ i. event (sym q i) (drop (e i) (sym r i))) ∙ h
+pub here : {s t : Section} {at on : ℕ} (x : Option Event) → t ≡ s → at ≡ on → event t.order (drop on t.bytes.now) ≡ x → event s.order (drop at s.bytes.now) ≡ x
+here x r e h = (λ i. event (sym r i).order (drop (e i) (sym r i).bytes.now)) ∙ h
 
 module _ (o : ByteOrder) (s : List ℕ) (so_far : List Row) (at : ℕ) (is : rows_from 0 (records o s) ≡ so_far ++ rows_from at (records o (drop at s))) where
   pub rows_end : event o (drop at s) ≡ None → rows_from 0 (records o s) ≡ so_far

@@ -57,6 +57,7 @@ fn id_of(misc: u16, bytes: &[u8]) -> &[u8]
 
 impl<'a> BuildIdEvent<'a> {
     // The record at the front of some bytes, if all of it is there.
+    // Kept: an order and any bytes, and no `Section`: it is public, and asks of no caller that the bytes are few.
     pub fn parse(order: ByteOrder, bytes: &'a [u8]) -> Option<BuildIdEvent<'a>>
         ensures { option_map event_of result ≡ event order bytes.now }
     {

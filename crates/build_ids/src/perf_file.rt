@@ -11,11 +11,12 @@ use crate::build_id_events::BuildIdEvents;
 use crate::builds::Builds;
 use dso_key::cpu_mode::CpuMode;
 use dso_key::least::least_mode;
+use image::ask::section_of;
+use image::section::Section;
 use image::store::Store;
 use perf_data::features::Feature;
 use table::fill::Fill;
 use table::row::{Row, blank_all};
-use wire::order::ByteOrder;
 use wire::refusal::Refusal;
 
 // The row of a record that stands at an offset, if it has a key.
@@ -25,9 +26,9 @@ fn row_of(at: usize, event: BuildIdEvent<'_>) -> Option<Row>
     requires id { length event.build_id.now ≤ 16777216 }
     ensures { result ≡ row_of «at» (event_of event.entry) }
 {
-    let number = least_mode(event.path, CpuMode::of_misc(event.misc))?;
+    let mode = least_mode(event.path, CpuMode::of_misc(event.misc))?;
     Some(Row {
-        number,
+        number: u32::from(mode),
         key_at: (at + PATH_AT) as u32,
         key_len: event.path.len() as u32,
         value_at: (at + ID_AT) as u32,
@@ -36,13 +37,15 @@ fn row_of(at: usize, event: BuildIdEvent<'_>) -> Option<Row>
 }
 
 // Reads the records of a section into the table, to the first that is not whole.
-fn tabulate(order: ByteOrder, section: &[u8], rows: &mut [Row]) -> Option<usize>
-    requires { length section.now ≤ 16777216 }
-    ensures count { result ≡ fits (length rows.old) (row_table order section.now) }
-    ensures after { rows.new ≡ laid (length rows.old) (row_table order section.now) }
+fn tabulate(section: Section<'_>, rows: &mut [Row]) -> Option<usize>
+    ensures count { result ≡ fits (length rows.old) (row_table section.entry.order section.entry.bytes.now) }
+    ensures after { rows.new ≡ laid (length rows.old) (row_table section.entry.order section.entry.bytes.now) }
 {
-    let mut fill = Fill::start(Builds { section }, rows);
-    for (at, event) in BuildIdEvents::new(order, section) {
+    let builds = Builds {
+        section: section.bytes,
+    };
+    let mut fill = Fill::start(builds, rows);
+    for (at, event) in BuildIdEvents::new(section) {
         if let Some(row) = row_of(at, event) {
             fill.add(row);
         }
@@ -54,11 +57,11 @@ fn read<'a, S: Store<'a>>(store: &S, rows: &mut [Row]) -> Result<Option<usize>, 
     ensures is { result ≡ answer (length rows.old) (S.endian store.now) ((S.map store.now).at 2) }
     ensures after { rows.new ≡ left (length rows.old) (S.endian store.now) ((S.map store.now).at 2) }
 {
-    let Some(section) = store.section(Feature::BUILD_ID.0) else {
+    let Some(section) = section_of(store, Feature::BUILD_ID.0) else {
         blank_all(rows);
         return Ok(None);
     };
-    let used = tabulate(store.order(), section, rows).ok_or(Refusal::TooFewRows {
+    let used = tabulate(section, rows).ok_or(Refusal::TooFewRows {
         feature: Feature::BUILD_ID.0,
     })?;
     Ok(Some(used))

@@ -14,14 +14,12 @@ use dso_key::least::least_mode;
 use dso_key::write::name;
 use hexadecimal::{Hex, decode};
 use image::store::Store;
+use perf_data::features::Feature;
 use section_store::SectionStore;
 use std::io::{BufRead, BufReader};
 use table::row::Row;
 use wire::order::ByteOrder;
 use wire::refusal::NO_FEATURE;
-
-// The feature that build ids are of.
-const BUILD_ID: u32 = 2;
 
 fn print_key(rt: &HostRuntime, misc: u16, path: &[u8]) -> anyhow::Result<()> {
     let mode = CpuMode::of_misc(misc);
@@ -29,6 +27,7 @@ fn print_key(rt: &HostRuntime, misc: u16, path: &[u8]) -> anyhow::Result<()> {
         rt.println("none")?;
         return Ok(());
     };
+    let least = u32::from(least);
     let mut room = [0u8; 512];
     let Ok(Some(len)) = name(path, misc, &mut room) else {
         return Err(anyhow!("a name has 512 bytes at most"));
@@ -78,7 +77,7 @@ fn print_section(rt: &HostRuntime, store: SectionStore<'_>, room: usize) -> anyh
         Err(refusal) => print!(rt; "{refusal}")?,
     }
     let builds = Builds {
-        section: store.section(BUILD_ID).unwrap_or(b""),
+        section: store.section(Feature::BUILD_ID.0).unwrap_or(b""),
     };
     for row in rows.iter().take(used) {
         print_row(rt, &builds, row)?;
@@ -111,7 +110,7 @@ fn print_line(rt: &HostRuntime, line: &str) -> anyhow::Result<()> {
             let order = order.parse().unwrap_or(ByteOrder::Little);
             // a store of no feature has no section
             let feature = if what == "section" {
-                BUILD_ID
+                Feature::BUILD_ID.0
             } else {
                 NO_FEATURE
             };

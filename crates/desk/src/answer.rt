@@ -2,12 +2,10 @@
 use crate::desk::Desk;
 use crate::request::{BadLine, Filing, Opening, Request};
 use hexadecimal::{Hex, decode};
+use image::section::LONGEST;
 use std::io::Read;
 use std::{fmt, fs, io};
 use wire::refusal::Refusal;
-
-// No image is longer. One byte more is read, which tells that a file is.
-const LONGEST_IMAGE: u64 = 16_777_216;
 
 #[derive(Clone, Copy)]
 pub enum Reply<'desk, 'line> {
@@ -25,6 +23,11 @@ pub enum Reply<'desk, 'line> {
 }
 
 impl fmt::Display for Reply<'_, '_> {
+    ghost use Rattle.std.specs.Prelude.{Some};
+    ghost use Rattle.desk.specs.Replies.{reply_text};
+
+    ghost output = { λ r. Some (reply_text r) };
+
     fn fmt<W: fmt::Write>(&self, f: &mut fmt::Formatter<W>) -> fmt::Result {
         match *self {
             Reply::Opened(strips) => write!(f, "opened {strips}"),
@@ -49,15 +52,18 @@ impl Reply<'_, '_> {
     }
 }
 
+// The bytes of a file; of one that is longer than an image, one byte more than an image has.
 fn read_image(rt: &HostRuntime, path: &str) -> io::Result<Vec<u8>> {
     let mut image = Vec::new(rt.alloc());
     fs::open(rt, path)?
-        .take(LONGEST_IMAGE + 1)
+        .take(LONGEST as u64 + 1)
         .read_to_end(&mut image)?;
     Ok(image)
 }
 
 // The answer to a filing of an image's bytes.
+// Kept: `map_or_else(Reply::Refused, Reply::Filed)` was tried here, and its like in `reply_to`: the check gives no proof of a
+// call that is handed a variant of a type with lifetimes which the variant's own value does not name.
 fn filed<'desk, 'line>(desk: &mut Desk, filing: Filing<'_>, image: &[u8]) -> Reply<'desk, 'line> {
     match desk.file(filing, image) {
         Ok(group) => Reply::Filed(group),
@@ -84,6 +90,7 @@ fn file<'desk, 'line>(
 }
 
 // Such a desk is not opened again.
+// Kept: the matches, for the reason at `filed`.
 fn reply_to<'desk, 'line>(
     rt: &HostRuntime,
     desk: &'desk mut Desk,
@@ -110,10 +117,7 @@ fn reply_to<'desk, 'line>(
 // Opens a desk, and says so.
 pub fn open(rt: &HostRuntime, opening: Opening) -> anyhow::Result<Desk> {
     let (desk, opened) = Desk::open(rt.alloc(), opening)?;
-    let reply = match opened {
-        Ok(()) => Reply::Opened(desk.strips()),
-        Err(refusal) => Reply::Refused(refusal),
-    };
+    let reply = opened.map_or_else(Reply::Refused, |()| Reply::Opened(desk.strips()));
     println!(rt; "{reply}")?;
     Ok(desk)
 }

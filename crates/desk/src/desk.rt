@@ -33,9 +33,9 @@ pub struct Desk {
     shown: Vec<u8>,
 }
 
-// A group's number, or 0 where it is above all that there are: no group has that.
-fn group_of(number: u64) -> u32 {
-    u32::try_from(number).unwrap_or(0)
+// The group of that number. Above the numbers of 32 bits there is none, so none is held.
+fn group_of(number: u64) -> Result<u32, Refusal> {
+    u32::try_from(number).map_err(|_| Refusal::GroupNotHeld)
 }
 
 // The first of some memory, as much as is asked for and there is.
@@ -51,7 +51,9 @@ impl Desk {
         let rows = vec![in heap; Row::BLANK; MOST_ROWS]?;
         let work = vec![in heap; 0u8; MOST_WORK]?;
         let shown = vec![in heap; 0u8; MOST_WORK]?;
-        let (shelf, answer) = Shelf::open(opening.strip, group_of(opening.first), bytes);
+        // A first number above those of 32 bits is out of bounds, as 0 is.
+        let first = u32::try_from(opening.first).unwrap_or(0);
+        let (shelf, answer) = Shelf::open(opening.strip, first, bytes);
         let desk = Desk {
             shelf,
             rows,
@@ -81,17 +83,17 @@ impl Desk {
     }
 
     pub fn release(&mut self, group: u64) -> Result<(), Refusal> {
-        self.shelf.release(group_of(group))
+        self.shelf.release(group_of(group)?)
     }
 
     pub fn count(&self, group: u64) -> Result<u32, Refusal> {
-        self.shelf.count(group_of(group))
+        self.shelf.count(group_of(group)?)
     }
 
     // The head of a group, where there is room for it.
     pub fn show(&mut self, group: u64, room: Option<usize>) -> Result<&[u8], Refusal> {
         let out = lent(&mut self.shown, room.unwrap_or(MOST_WORK));
-        let len = self.shelf.show(group_of(group), out)?;
+        let len = self.shelf.show(group_of(group)?, out)?;
         Ok(&out[0..len])
     }
 }

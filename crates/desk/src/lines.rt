@@ -4,6 +4,12 @@ use std::io;
 use std::io::{BufRead, BufReader, Stdin};
 use std::str::from_utf8;
 
+// A line that is not text is no request.
+fn request_of(line: &[u8]) -> Result<Request<'_>, BadLine> {
+    let text = from_utf8(line.strip_suffix(b"\n").unwrap_or(line)).map_err(|_| BadLine)?;
+    Request::try_from(text)
+}
+
 #[derive(Drop)]
 pub struct Lines {
     input: BufReader<Stdin>,
@@ -18,16 +24,12 @@ impl Lines {
         })
     }
 
-    // Reads the next line, if there is one.
-    pub fn advance(&mut self) -> io::Result<bool> {
+    // The request that the next line is, if there is a line.
+    pub fn next_request(&mut self) -> io::Result<Option<Result<Request<'_>, BadLine>>> {
         self.line.clear();
-        Ok(self.input.read_until(b'\n', &mut self.line)? > 0)
-    }
-
-    // The request that the line is. One that is not text is none.
-    pub fn request(&self) -> Result<Request<'_>, BadLine> {
-        let line = self.line.as_slice();
-        let text = from_utf8(line.strip_suffix(b"\n").unwrap_or(line)).map_err(|_| BadLine)?;
-        Request::try_from(text)
+        if self.input.read_until(b'\n', &mut self.line)? == 0 {
+            return Ok(None);
+        }
+        Ok(Some(request_of(&self.line)))
     }
 }

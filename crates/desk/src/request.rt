@@ -1,4 +1,7 @@
 // A request, taken from a line.
+ghost use Rattle.std.specs.Prelude.{◌≡◌, IfOk, MatchOption};
+ghost use Rattle.desk.specs.Requests.{IsNumber, first_of, others_of};
+
 use std::fmt;
 use std::str::FromStr;
 
@@ -38,8 +41,13 @@ pub struct Lent {
 pub struct BadLine;
 
 impl fmt::Display for BadLine {
+    ghost use Rattle.std.specs.Prelude.{Some};
+    ghost use Rattle.desk.specs.Replies.{bad_line};
+
+    ghost output = { λ _. Some bad_line };
+
     fn fmt<W: fmt::Write>(&self, f: &mut fmt::Formatter<W>) -> fmt::Result {
-        write!(f, "bad line")
+        f.write_str("bad line")
     }
 }
 
@@ -47,24 +55,33 @@ impl fmt::Display for BadLine {
 pub const MOST_ROWS: usize = 65_536;
 
 // A number of decimal digits alone.
-fn number(word: &str) -> Result<u64, BadLine> {
+fn number(word: &str) -> Result<u64, BadLine>
+    ensures { IfOk result (IsNumber word.now) }
+{
     if word.starts_with('+') {
         return Err(BadLine);
     }
     word.parse::<u64>().map_err(|_| BadLine)
 }
 
-fn size(word: &str) -> Result<usize, BadLine> {
+fn size(word: &str) -> Result<usize, BadLine>
+    ensures { IfOk result (IsNumber word.now) }
+{
     Ok(number(word)? as usize)
 }
 
 // Two words, with a space between them.
-fn pair(words: &str) -> Result<(&str, &str), BadLine> {
+fn pair(words: &str) -> Result<(&str, &str), BadLine>
+    ensures { IfOk result (λ p. (p.0.now ≡ first_of words.now) × (p.1.now ≡ others_of words.now)) }
+{
     words.split_once(' ').ok_or(BadLine)
 }
 
 // The first word of some, and the others where a space follows it.
-fn first_word(words: &str) -> (&str, Option<&str>) {
+fn first_word(words: &str) -> (&str, Option<&str>)
+    ensures first { result.0.now ≡ first_of words.now }
+    ensures others { MatchOption result.1 (first_of words.now ≡ words.now) (λ w. w.now ≡ others_of words.now) }
+{
     match words.split_once(' ') {
         Some((word, others)) => (word, Some(others)),
         None => (words, None),
@@ -72,7 +89,11 @@ fn first_word(words: &str) -> (&str, Option<&str>) {
 }
 
 impl FromStr for Opening {
+    ghost use Rattle.desk.specs.Requests.{IsOpening};
+
     type Err = BadLine;
+
+    ghost from_str_gives = { λ words r. IfOk r (IsOpening words) };
 
     fn from_str(words: &str) -> Result<Opening, BadLine> {
         let (strip, words) = pair(words)?;
@@ -86,7 +107,11 @@ impl FromStr for Opening {
 }
 
 impl FromStr for Lent {
+    ghost use Rattle.desk.specs.Requests.{IsLent};
+
     type Err = BadLine;
+
+    ghost from_str_gives = { λ words r. IfOk r (IsLent words) };
 
     fn from_str(words: &str) -> Result<Lent, BadLine> {
         let (rows, work) = pair(words)?;
@@ -100,7 +125,11 @@ impl FromStr for Lent {
 }
 
 impl<'a> TryFrom<&'a str> for Filing<'a> {
+    ghost use Rattle.desk.specs.Requests.{IsFiling};
+
     type Error = BadLine;
+
+    ghost try_from_gives = { λ words r. IfOk r (IsFiling words.now) };
 
     fn try_from(words: &'a str) -> Result<Filing<'a>, BadLine> {
         let (source, lent) = first_word(words);
@@ -113,7 +142,11 @@ impl<'a> TryFrom<&'a str> for Filing<'a> {
 }
 
 impl<'a> TryFrom<&'a str> for Request<'a> {
+    ghost use Rattle.desk.specs.Requests.{IsRequest};
+
     type Error = BadLine;
+
+    ghost try_from_gives = { λ line r. IfOk r (IsRequest line.now) };
 
     fn try_from(line: &'a str) -> Result<Request<'a>, BadLine> {
         let (name, words) = pair(line)?;

@@ -106,7 +106,7 @@ module _ (path : List ℕ) (key : Key) where
       let q : suc m + k ≡ m + suc k = omega arith in
       some_by n m (is_the key (detect path (mode_of m))) (from_some n (suc m) k (omega arith) (ap (λ i. detect path (mode_of i)) q ∙ e))
 
-mode_again : (mode : CpuMode) → mode_of (0 + number_of mode) ≡ mode
+pub mode_again : (mode : CpuMode) → mode_of (number_of mode) ≡ mode
 mode_again Unknown = refl
 mode_again Kernel = refl
 mode_again User = refl
@@ -125,7 +125,8 @@ number-low GuestUser = omega arith
 some_of : (path : List ℕ) (mode : CpuMode) (o : Option Key) → detect path mode ≡ o → is_some (least_of path o) ≡ is_some o
 some_of path mode None e = refl
 some_of path mode (Some key) e =
-    from_some path key 6 0 (number_of mode) (number-low mode) (ap (detect path) (mode_again mode) ∙ e)
+    let z : 0 + number_of mode ≡ number_of mode = omega arith in
+    from_some path key 6 0 (number_of mode) (number-low mode) (ap (λ n. detect path (mode_of n)) z ∙ ap (detect path) (mode_again mode) ∙ e)
 
 pub least_some : (path : List ℕ) (mode : CpuMode) → is_some (least_mode path mode) ≡ is_some (detect path mode)
 least_some path mode = some_of path mode (detect path mode) refl

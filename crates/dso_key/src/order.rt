@@ -31,6 +31,8 @@ impl<'a> DsoKey<'a> {
     }
 
     // The place of the kind among the kinds.
+    // Kept: tried `Ord` derived on `DsoKind`: its `cmp` goes by pairs of variants, and that it is the order of the places,
+    // which is what the order of keys is defined by, did not close over the sixty-four pairs.
     fn rank(self) -> u32
         ensures { result ≡ rank_of (key_of self.entry) }
     {
@@ -55,6 +57,7 @@ impl<'a> DsoKey<'a> {
     }
 }
 
+// Kept: the derived equality and order would tell apart the two ways in which one module's name is written.
 impl PartialEq for DsoKey<'_> {
     ghost eq = { eq_by_cmp by_key };
 
@@ -89,9 +92,8 @@ impl Ord for DsoKey<'_> {
     ghost matches_eq = { λ x y. refl };
 
     fn cmp(&self, other: &Self) -> Ordering {
-        match self.rank().cmp(&other.rank()) {
-            Ordering::Equal => self.compare_texts(*other),
-            unequal => unequal,
-        }
+        self.rank()
+            .cmp(&other.rank())
+            .then(self.compare_texts(*other))
     }
 }

@@ -1,6 +1,7 @@
 // The features that a head carries.
 ghost use Rattle.std.specs.Prelude.{◌≡◌};
 ghost use Rattle.facts.specs.Facts.{number as number_of};
+ghost use Rattle.facts.specs.Head.{carried};
 
 // By rising numbers, which are those of their sections.
 #[derive(Clone, Copy, PartialEq, Eq, Debug)]
@@ -24,23 +25,27 @@ pub enum Carried {
 
 impl Carried {
     // All of them, by rising numbers.
-    pub const ALL: [Carried; 15] = [
-        Carried::BuildId,
-        Carried::Hostname,
-        Carried::OsRelease,
-        Carried::Version,
-        Carried::Arch,
-        Carried::NrCpus,
-        Carried::CpuDesc,
-        Carried::CpuId,
-        Carried::TotalMem,
-        Carried::CmdLine,
-        Carried::PmuMappings,
-        Carried::Stat,
-        Carried::ClockId,
-        Carried::SimpleperfFile,
-        Carried::SimpleperfMetaInfo,
-    ];
+    pub fn all() -> [Carried; 15]
+        ensures { result ≡ carried }
+    {
+        [
+            Carried::BuildId,
+            Carried::Hostname,
+            Carried::OsRelease,
+            Carried::Version,
+            Carried::Arch,
+            Carried::NrCpus,
+            Carried::CpuDesc,
+            Carried::CpuId,
+            Carried::TotalMem,
+            Carried::CmdLine,
+            Carried::PmuMappings,
+            Carried::Stat,
+            Carried::ClockId,
+            Carried::SimpleperfFile,
+            Carried::SimpleperfMetaInfo,
+        ]
+    }
 
     // The feature's number.
     pub fn number(self) -> u16

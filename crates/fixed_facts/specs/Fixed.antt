@@ -78,3 +78,8 @@ of_first size read o s = read o (take size s)
 abbrev pub parsed : {V : Type 0} → Result V Refusal → Result V Fault
 parsed (Ok v) = Ok v
 parsed (Err e) = Err (fault_of e)
+
+-- The same of a number of whatever type: `value` is what it stands for.
+abbrev pub parsed_as : {N V : Type 0} → (N → V) → Result N Refusal → Result V Fault
+parsed_as value (Ok n) = Ok (value n)
+parsed_as value (Err e) = Err (fault_of e)

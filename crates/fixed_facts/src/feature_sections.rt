@@ -1,8 +1,10 @@
 // Facts of a fixed length: numbers, one after the other.
 ghost use Rattle.std.specs.Prelude.{◌≡◌, ℕ, List, Result as Answer};
+ghost use Rattle.std.specs.Option.{option_map};
+ghost use Rattle.wire.specs.Numbers.{number};
 ghost use Rattle.wire.specs.declared.order.ByteOrder.{ByteOrder as Order};
 ghost use Rattle.wire.specs.declared.refusal.Fault.{Fault};
-ghost use Rattle.fixed_facts.specs.Fixed.{field, whole64, nr_cpus, sample_time_range, compression_info, clock_data, total_mem, clock_frequency, parsed};
+ghost use Rattle.fixed_facts.specs.Fixed.{field, whole64, nr_cpus, sample_time_range, compression_info, clock_data, total_mem, clock_frequency, parsed, parsed_as};
 
 use perf_data::features::Feature;
 use wire::order::{ByteOrder, tail};
@@ -22,47 +24,66 @@ pub trait FixedFact: Sized {
     // What its bytes are read as.
     ghost read: { Order → List ℕ → Answer Self Fault };
 
+    // Reads the fields, which are those of the feature's section.
+    fn from_fields(fields: &Fields<'_>) -> Result<Self, Refusal>
+        ensures { fields.now.feature ≡ FEATURE → parsed result ≡ read fields.now.order fields.now.bytes.now };
+
     fn parse(order: ByteOrder, bytes: &[u8]) -> Result<Self, Refusal>
-        ensures { parsed result ≡ read order bytes.now };
+        ensures { parsed result ≡ read order bytes.now }
+    {
+        Self::from_fields(&Fields {
+            feature: Self::FEATURE,
+            order,
+            bytes,
+        })
+    }
+}
+
+// A number that a field is.
+trait Number: Sized {
+    ghost width: { ℕ };
+
+    ghost value: { Self → ℕ };
+
+    // The number that some bytes begin with.
+    fn read(order: ByteOrder, bytes: &[u8]) -> Option<Self>
+        ensures { option_map value result ≡ number order width bytes.now };
+}
+
+impl Number for u32 {
+    ghost width = { 4 };
+
+    ghost value = { λ n. n };
+
+    fn read(order: ByteOrder, bytes: &[u8]) -> Option<u32> {
+        order.u32(bytes)
+    }
+}
+
+impl Number for u64 {
+    ghost width = { 8 };
+
+    ghost value = { λ n. n };
+
+    fn read(order: ByteOrder, bytes: &[u8]) -> Option<u64> {
+        order.u64(bytes)
+    }
 }
 
 // The bytes of a feature's section, and the order that its numbers have.
 #[derive(Clone, Copy)]
-struct Fields<'a> {
-    feature: u32,
-    order: ByteOrder,
-    bytes: &'a [u8],
+pub struct Fields<'a> {
+    pub feature: u32,
+    pub order: ByteOrder,
+    pub bytes: &'a [u8],
 }
 
-impl<'a> Fields<'a> {
-    fn new(feature: u32, order: ByteOrder, bytes: &'a [u8]) -> Fields<'a>
-        ensures feature { result.feature ≡ feature }
-        ensures order { result.order ≡ order }
-        ensures bytes { result.bytes.now ≡ bytes.now }
+impl Fields<'_> {
+    // The number that stands at an offset.
+    fn at<N: Number>(&self, at: u32) -> Result<N, Refusal>
+        ensures { parsed_as N.value result ≡ field self.now.feature self.now.order N.width self.now.bytes.now «at» }
     {
-        Fields {
-            feature,
-            order,
-            bytes,
-        }
-    }
-
-    // Kept: two widths by two methods. `ByteOrder` reads each width by a method of its own, so one generic method would have to
-    // be handed that method, and each of the 13 calls would be longer by it.
-    fn u32_at(&self, at: u32) -> Result<u32, Refusal>
-        ensures { parsed result ≡ field self.now.feature self.now.order 4 self.now.bytes.now at }
-    {
-        let number = self.order.u32(tail(self.bytes, at as usize));
-        number.ok_or(Refusal::CutShort {
-            feature: self.feature,
-            at,
-        })
-    }
-
-    fn u64_at(&self, at: u32) -> Result<u64, Refusal>
-        ensures { parsed result ≡ field self.now.feature self.now.order 8 self.now.bytes.now at }
-    {
-        let number = self.order.u64(tail(self.bytes, at as usize));
+        let number = N::read(self.order, tail(self.bytes, at as usize));
         number.ok_or(Refusal::CutShort {
             feature: self.feature,
             at,
@@ -97,11 +118,10 @@ impl FixedFact for NrCpus {
 
     ghost read = { nr_cpus };
 
-    fn parse(order: ByteOrder, bytes: &[u8]) -> Result<NrCpus, Refusal> {
-        let fields = Fields::new(Self::FEATURE, order, bytes);
+    fn from_fields(fields: &Fields<'_>) -> Result<NrCpus, Refusal> {
         Ok(NrCpus {
-            nr_cpus_available: fields.u32_at(0)?,
-            nr_cpus_online: fields.u32_at(4)?,
+            nr_cpus_available: fields.at(0)?,
+            nr_cpus_online: fields.at(4)?,
         })
     }
 }
@@ -123,8 +143,7 @@ impl FixedFact for TotalMem {
 
     ghost read = { total_mem };
 
-    fn parse(order: ByteOrder, bytes: &[u8]) -> Result<TotalMem, Refusal> {
-        let fields = Fields::new(Self::FEATURE, order, bytes);
+    fn from_fields(fields: &Fields<'_>) -> Result<TotalMem, Refusal> {
         Ok(TotalMem {
             kilobytes: fields.whole_u64()?,
         })
@@ -149,11 +168,10 @@ impl FixedFact for SampleTimeRange {
 
     ghost read = { sample_time_range };
 
-    fn parse(order: ByteOrder, bytes: &[u8]) -> Result<SampleTimeRange, Refusal> {
-        let fields = Fields::new(Self::FEATURE, order, bytes);
+    fn from_fields(fields: &Fields<'_>) -> Result<SampleTimeRange, Refusal> {
         Ok(SampleTimeRange {
-            first_sample_time: fields.u64_at(0)?,
-            last_sample_time: fields.u64_at(8)?,
+            first_sample_time: fields.at(0)?,
+            last_sample_time: fields.at(8)?,
         })
     }
 }
@@ -175,8 +193,7 @@ impl FixedFact for ClockFrequency {
 
     ghost read = { clock_frequency };
 
-    fn parse(order: ByteOrder, bytes: &[u8]) -> Result<ClockFrequency, Refusal> {
-        let fields = Fields::new(Self::FEATURE, order, bytes);
+    fn from_fields(fields: &Fields<'_>) -> Result<ClockFrequency, Refusal> {
         Ok(ClockFrequency {
             ns_per_tick: fields.whole_u64()?,
         })
@@ -187,7 +204,9 @@ impl FixedFact for ClockFrequency {
 #[derive(Clone, Copy)]
 pub struct CompressionInfo {
     pub version: u32,
-    // 1 is Zstd
+    // 1 is Zstd.
+    // Kept: a number, as linux-perf-data's field is. Any number is carried as it is, and no other has a name: an enum would be
+    // `Zstd` and `Other(u32)`, with a conversion each way, and `Other(1)` would be a second value for Zstd.
     pub type_: u32,
     pub level: u32,
     pub ratio: u32,
@@ -205,14 +224,13 @@ impl FixedFact for CompressionInfo {
 
     ghost read = { compression_info };
 
-    fn parse(order: ByteOrder, bytes: &[u8]) -> Result<CompressionInfo, Refusal> {
-        let fields = Fields::new(Self::FEATURE, order, bytes);
+    fn from_fields(fields: &Fields<'_>) -> Result<CompressionInfo, Refusal> {
         Ok(CompressionInfo {
-            version: fields.u32_at(0)?,
-            type_: fields.u32_at(4)?,
-            level: fields.u32_at(8)?,
-            ratio: fields.u32_at(12)?,
-            mmap_len: fields.u32_at(16)?,
+            version: fields.at(0)?,
+            type_: fields.at(4)?,
+            level: fields.at(8)?,
+            ratio: fields.at(12)?,
+            mmap_len: fields.at(16)?,
         })
     }
 }
@@ -236,15 +254,15 @@ impl FixedFact for ClockData {
 
     ghost read = { clock_data };
 
-    fn parse(order: ByteOrder, bytes: &[u8]) -> Result<ClockData, Refusal> {
-        let fields = Fields::new(Self::FEATURE, order, bytes);
-        if fields.u32_at(0)? != 1 {
+    fn from_fields(fields: &Fields<'_>) -> Result<ClockData, Refusal> {
+        let version: u32 = fields.at(0)?;
+        if version != 1 {
             return Err(Refusal::WrongClockVersion);
         }
         Ok(ClockData {
-            clockid: fields.u32_at(4)?,
-            wall_clock_ns: fields.u64_at(8)?,
-            clockid_time_ns: fields.u64_at(16)?,
+            clockid: fields.at(4)?,
+            wall_clock_ns: fields.at(8)?,
+            clockid_time_ns: fields.at(16)?,
         })
     }
 }

@@ -1,8 +1,6 @@
 -- The entry of a fact: its bytes are written first, and then what stands before them.
-use Rattle.std.proofs.Common.{◌≡◌, ℕ, ◌+◌, ◌-◌, ◌^◌, ◌<◌, Bool, true, false, [], ◌++◌, length, IsErrAnd, Some, None, Ok, Err, Result, sym, refl, ap, ◌∙◌, subst, arith}
+use Rattle.std.proofs.Common.{◌≡◌, ℕ, ◌+◌, ◌-◌, ◌^◌, ◌<◌, Bool, true, false, [], ◌++◌, length, Some, None, Ok, Err, sym, refl, ap, ◌∙◌, subst, arith}
 use Rattle.std.proofs.lemmas.List.{append_assoc, length-append}
-use Rattle.wire.specs.Faults.{fault_of}
-use Rattle.wire.specs.declared.refusal.Refusal.{Refusal}
 use Rattle.wire.proofs.Digits.{length-bytes_of}
 use Rattle.put.specs.Overlay.{place}
 use Rattle.put.specs.declared.writer.Writer.{Writer}
@@ -15,18 +13,9 @@ use Rattle.facts.specs.Head.{Answer, framed, entry}
 use Rattle.facts.specs.Written.{u16, u32}
 use Rattle.head_laws.proofs.Found.{not_ok, Small}
 use Rattle.head.specs.Wrote.{Wrote}
-use Rattle.head.proofs.Writes.{appends_nothing, wrote, broken}
+use Rattle.head.proofs.Writes.{appends_nothing, wrote}
 
 -- ---- what an answer was, by what was answered
-
--- there was a fault
-pub wrote_refused : (f : Carried) (r : Answer) (e : Refusal) (q : Result (Unit {0}) Refusal) {b : ℕ} {u v w : Writer} → Goes b u v → Writes (in_bytes r) v (Err e) w → IsErrAnd q (λ y. y ≡ e) → Wrote (entry f r) u q w
-wrote_refused f (Ok None) e q leave w b = not_ok (fault_of e) false w.answers
-wrote_refused f (Ok (Some x)) e q leave w b = not_ok (fault_of e) true w.answers
-wrote_refused f (Err y) e q leave w b =
-    let p = w.answers in
-    let is : fault_of e ≡ y = cc in
-    broken q e (w.appends.same_reference ∙ leave.same_reference) b (ap (λ z. Err z) (sym is))
 
 -- there was no fact, and nothing is written
 pub wrote_absent : (f : Carried) (r : Answer) {b e : ℕ} {u v w z : Writer} → Goes b u v → Writes (in_bytes r) v (Ok false) w → e ≡ u.at → Goes e w z → Wrote (entry f r) u (Ok tt) z

@@ -34,12 +34,9 @@ pub fn write_image_head(
     ensures rows { rows.new ≡ blanks (length rows.old) }
     ensures room { IfOk result (λ n. n ≤ length out.old) }
 {
-    // Kept: to blank first and go on by `?` blanks all lent rows twice, since `write_head` leaves them blank itself.
-    match open_within(image, most) {
-        Ok(store) => write_head(&store, rows, out),
-        Err(refusal) => {
-            blank_all(rows);
-            Err(refusal)
-        }
+    let opened = open_within(image, most);
+    if opened.is_err() {
+        blank_all(rows);
     }
+    write_head(&opened?, rows, out)
 }

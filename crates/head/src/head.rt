@@ -6,6 +6,7 @@ ghost use Rattle.table.specs.Rows.{blanks};
 ghost use Rattle.head.specs.Wrote.{Wrote};
 
 use facts::carried::Carried;
+use image::section::LONGEST;
 use image::store::Store;
 use perf_data::features::Feature;
 use put::Writer;
@@ -16,11 +17,12 @@ use wire::refusal::Refusal;
 // `PRH`, and the version 1.
 const MARK: [u8; 5] = [0x50, 0x52, 0x48, 0x01, 0x00];
 
-// No image is longer.
-const MOST: usize = 16_777_216;
-
 // What stands before a fact: its feature's number, and its length.
 const FRONT: usize = 6;
+
+// Kept: the store, the rows and the writer go from function to function as parameters, as `put_fact` takes them. A struct of the
+// three would have each clause say too that the store and the number of rows are those of before, as `Appends` says that a
+// writer's buffer is the same one; of a parameter that is known.
 
 // The entry of a feature, if the store has it: first its fact, and then what stands before it.
 fn write_entry<'a, S: Store<'a>>(
@@ -80,7 +82,7 @@ fn write_whole<'a, S: Store<'a>>(
         return Err(Refusal::SecondFormatPresent);
     }
     w.put(&MARK);
-    write_entries(store, &Carried::ALL, rows, w)
+    write_entries(store, &Carried::all(), rows, w)
 }
 
 // The head is counted first: where it is refused or does not fit, `out` stays as it was.
@@ -95,7 +97,7 @@ fn write_fitting<'a, S: Store<'a>>(
     let mut counter = Writer::new(&mut []);
     write_whole(store, rows, &mut counter)?;
     let len = counter.at();
-    if len > out.len().min(MOST) {
+    if len > out.len().min(LONGEST) {
         return Err(Refusal::TooLittleRoom);
     }
     write_whole(store, rows, &mut Writer::new(out))?;

@@ -7,72 +7,68 @@
 use anyhow::{Context, anyhow};
 use head::from_image::write_image_head;
 use hexadecimal::{Hex, decode};
+use image::section::LONGEST;
 use std::io::{BufRead, BufReader};
 use std::iter::Cycle;
 use std::ops::RangeInclusive;
 use table::row::Row;
+use table_cases::caller::DIRTY;
 
 // The rows and the bytes that are made once and lent for every line.
 const MOST_ROWS: usize = 65_536;
 
 const MOST_ROOM: usize = 70_000;
 
-// No image is longer.
-const MOST: usize = 16_777_216;
-
-const DIRTY: Row = Row {
-    number: 7,
-    key_at: 7,
-    key_len: 7,
-    value_at: 7,
-    value_len: 7,
-};
-
 // What the bytes of the room are before a call, over and over: never 0, and none the same as its neighbours.
 fn filling() -> Cycle<RangeInclusive<u8>> {
     (1..=251).cycle()
 }
 
-fn fill(rows: &mut [Row], room: &mut [u8]) {
-    rows.fill(DIRTY);
-    for (byte, filled) in room.iter_mut().zip(filling()) {
-        *byte = filled;
-    }
+// The memory that a call is lent.
+#[derive(Drop)]
+struct Lent<'a> {
+    rows: &'a mut [Row],
+    room: &'a mut [u8],
 }
 
-// Whether a row is not blank, or a byte from a place on not as it was.
-fn is_touched(rows: &[Row], room: &[u8], from: usize) -> bool {
-    rows.iter().any(|row| *row != Row::BLANK)
-        || room
-            .iter()
-            .zip(filling())
-            .skip(from)
-            .any(|(byte, filled)| *byte != filled)
-}
-
-fn print_head(
-    rt: &HostRuntime,
-    image: &[u8],
-    rows: &mut [Row],
-    room: &mut [u8],
-) -> anyhow::Result<()> {
-    fill(rows, room);
-    let written = match write_image_head(image, MOST, rows, room) {
-        Ok(len) => {
-            let head = Hex(&room[..len]);
-            print!(rt; "head x{head}")?;
-            len
+impl Lent<'_> {
+    fn fill(&mut self) {
+        self.rows.fill(DIRTY);
+        for (byte, filled) in self.room.iter_mut().zip(filling()) {
+            *byte = filled;
         }
-        Err(refusal) => {
-            print!(rt; "{refusal}")?;
-            0
-        }
-    };
-    if is_touched(rows, room, written) {
-        print!(rt; " touched")?;
     }
-    println!(rt; "")?;
-    Ok(())
+
+    // Whether a row is not blank, or a byte of the room from a place on not as it was filled.
+    fn is_touched(&self, from: usize) -> bool {
+        self.rows.iter().any(|row| *row != Row::BLANK)
+            || self
+                .room
+                .iter()
+                .zip(filling())
+                .skip(from)
+                .any(|(byte, filled)| *byte != filled)
+    }
+
+    fn print_head(&mut self, rt: &HostRuntime, image: &[u8]) -> anyhow::Result<()> {
+        self.fill();
+        let written = match write_image_head(image, LONGEST, self.rows, self.room) {
+            Ok(len) => {
+                let head = Hex(&self.room[..len]);
+                print!(rt; "head x{head}")?;
+                len
+            }
+            Err(refusal) => {
+                print!(rt; "{refusal}")?;
+                0
+            }
+        };
+        if self.is_touched(written) {
+            print!(rt; " touched")?;
+        }
+        println!(rt; "")?;
+        Ok(())
+    }
 }
 
 fn print_line(
@@ -93,7 +89,7 @@ fn print_line(
         return Err(anyhow!("a line has more rows or room than there are"));
     };
     let image = decode(rt.alloc(), text.as_bytes())?.context("a line has no whole hexadecimal")?;
-    print_head(rt, &image, rows, room)
+    Lent { rows, room }.print_head(rt, &image)
 }
 
 fn main(rt: HostRuntime) -> anyhow::Result<()> {

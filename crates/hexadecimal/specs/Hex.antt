@@ -1,5 +1,7 @@
 -- Bytes in lower-case hexadecimal.
-use Rattle.std.specs.Prelude.{ℕ, ◌+◌, ◌-◌, ◌*◌, cond, ◌&&◌, List, [], ◌∷◌, Some, None, vec_items, Option, Vec, nat_le}
+use Rattle.std.specs.Prelude.{ℕ, ◌+◌, ◌-◌, ◌*◌, ◌/◌, ◌%◌, cond, ◌&&◌, List, [], ◌∷◌, Some, None, vec_items, Option, Vec, nat_le, false}
+use Rattle.std.specs.List.{flat_map}
+use Rattle.std.specs.Fmt.{digit_glyph}
 use Rattle.std.specs.declared.alloc.Global.{Global}
 
 -- 0 to 9, and a to f for 10 to 15.
@@ -23,3 +25,10 @@ bytes_of (a ∷ b ∷ text) = before (digit_of a) (digit_of b) (bytes_of text)
 abbrev pub items : Option (Vec ℕ Global) → Option (List ℕ)
 items None = None
 items (Some v) = Some (vec_items v)
+
+-- The text of bytes: two digits each, the higher first.
+abbrev pub pair_of : ℕ → List ℕ
+pair_of b = digit_glyph false (b / 16) ∷ digit_glyph false (b % 16) ∷ []
+
+abbrev pub text_of : List ℕ → List ℕ
+text_of bytes = flat_map pair_of bytes

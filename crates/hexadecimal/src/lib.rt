@@ -42,10 +42,14 @@ pub fn decode(heap: Global, text: &[u8]) -> Result<Option<Vec<u8>>, AllocError>
 pub struct Hex<'a>(pub &'a [u8]);
 
 impl fmt::Display for Hex<'_> {
+    ghost use Rattle.std.specs.Prelude.{Some};
+    ghost use Rattle.hexadecimal.specs.Hex.{text_of};
+
+    ghost output = { λ h. Some (text_of h.0.now) };
+
     fn fmt<W: fmt::Write>(&self, f: &mut fmt::Formatter<W>) -> fmt::Result {
-        for byte in self.0 {
-            let b = *byte;
-            write!(f, "{b:02x}")?;
+        for &byte in self.0 {
+            write!(f, "{byte:02x}")?;
         }
         Ok(())
     }

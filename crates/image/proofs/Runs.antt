@@ -9,7 +9,7 @@ use Rattle.image.specs.Index.{Put, section_in}
 use Rattle.image.specs.Meaning.{faulty, means}
 use Rattle.image.specs.declared.run.Front.{Front}
 use Rattle.image.specs.Run.{Reader, after, done, broken, entry, passed, run, run_from, walked}
-use Rattle.image.proofs.Walks.{Filling, filling_none, filling_put, filling_skip, filling_broken, filling_done}
+use Rattle.image.proofs.Walks.{Filling, filling_put, filling_skip, filling_broken, filling_done}
 
 pub none_not : {X Y : Type 0} (x : X) → None ≡ Some x → Y
 none_not x h = let z : ◌≡◌ {A = ℕ} 0 1 = cc in absurd (omega arith)
@@ -58,12 +58,6 @@ pub record Running (front : Reader) (from : ℕ) (o : ByteOrder) (image : List �
   pub within : length s ≤ length image
   pub order : index.order ≡ o
   pub full : length index.sections ≡ 256
-
-pub running_none : {front : Reader} {from : ℕ} {o : ByteOrder} {image s : List ℕ} {index : Indexed} → s ≡ drop from image → index.order ≡ o → length index.sections ≡ 256 → ((n : ℕ) → section_in index n ≡ None) → Running front from o image 0 s index
-running_none {front} {from} {o} {image} {index} e q u bare =
-    let l = length-drop from image in
-    let r : Running front from o image 0 (drop from image) index = record { fill = filling_none bare; within = omega arith; order = q; full = u } in
-    rw e r
 
 module _ {front : Reader} {from : ℕ} {o : ByteOrder} {image : List ℕ} {low : ℕ} {s : List ℕ} {was : Indexed} (r : Running front from o image low s was) where
   pub running_broken : (number : ℕ) → 0 < length s → front low s ≡ None → faulty (image_fault number (length image - length s)) ≡ walked number o (run_from front from image)

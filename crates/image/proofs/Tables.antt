@@ -1,7 +1,6 @@
 -- The table of a file image, a feature at a time.
 use Rattle.std.proofs.Common.{◌≡◌, ℕ, zero, suc, ◌+◌, ◌<◌, ◌≤◌, Bool, true, false, cond, ◌&&◌, ltb, List, length, take, drop, Some, None, sym, refl, ap, ◌∙◌, ⊎_elim, add-one, arith}
 use mathlib.Core.Path.{fun_ext}
-use Rattle.std.proofs.lemmas.List.{length-take, length-drop}
 use Rattle.std.proofs.lemmas.Bool.{cond-true, cond-false, cond_both, cases_lt, le-ltb, lt-ltb, eq-eqb, ne_eqb}
 use Rattle.wire.specs.Faults.{image_fault}
 use Rattle.wire.specs.Numbers.{number_at}
@@ -80,13 +79,6 @@ is_past false x e = let z : ◌≡◌ {A = ℕ} 0 1 = cc in absurd (omega arith)
 not_past : (b : Bool) (x y : List ℕ) → cond b None (Some x) ≡ Some y → (b ≡ false) × (y ≡ x)
 not_past true x y e = let z : ◌≡◌ {A = ℕ} 0 1 = cc in absurd (omega arith)
 not_past false x y e = (refl, cc)
-
--- a section is no longer than the image
-pub section_few : (o : ByteOrder) (image : List ℕ) (at : ℕ) (b : List ℕ) → section_at o image at ≡ Some b → length b ≤ length image
-section_few o image at b e =
-    let start : ℕ = number_at o 8 image at in
-    let len : ℕ = number_at o 8 image (at + 8) in
-    rw (not_past (ltb (length image) (start + len)) _ b e).1 (omega (arith, length-take len (drop start image), length-drop start image))
 
 -- the index has the sections of the features below `n`, all of which lie within the image, and no other; the next
 -- entry stands at `at`

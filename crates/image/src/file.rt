@@ -1,15 +1,16 @@
 // The file image: the mark, the u64 104, four words that tell which features there are, and behind the data a table of
 // their sections.
 ghost use Rattle.std.specs.Prelude.{◌≡◌, ◌+◌, ◌*◌, ◌<◌, ◌≤◌, length, nat_le};
+ghost use Rattle.std.specs.Option.{option_map};
 ghost use Rattle.wire.specs.Numbers.{number_at};
 ghost use Rattle.image.specs.File.{is_set, set_below, entry_at, section_at, sections_of, tabled, file_image};
-ghost use Rattle.image.specs.Held.{held};
 ghost use Rattle.image.specs.Index.{section_in};
 ghost use Rattle.image.specs.Meaning.{opened};
 
 use crate::index::{FEATURES, Indexed};
 use crate::mark::marked;
 use crate::opened::{Opened, sized};
+use crate::section::Section;
 use wire::order::{ByteOrder, tail};
 use wire::refusal::Refusal;
 
@@ -75,9 +76,9 @@ impl<'a> Layout<'a> {
     }
 
     // The section that a table entry gives; none where it ends past the image.
-    fn section_at(&self, entry: usize) -> Option<&'a [u8]>
+    fn section_at(&self, entry: usize) -> Option<Section<'a>>
         requires { entry + 16 ≤ length self.now.image.now }
-        ensures { held result ≡ section_at self.now.order self.now.image.now entry }
+        ensures { option_map (λ s. s.bytes.now) result ≡ section_at self.now.order self.now.image.now entry }
     {
         let start = self.u64_at(entry);
         let len = self.u64_at(entry + 8);
@@ -85,7 +86,10 @@ impl<'a> Layout<'a> {
             return None;
         }
         let start = start as usize;
-        Some(&self.image[start..start + len as usize])
+        Some(Section {
+            order: self.order,
+            bytes: &self.image[start..start + len as usize],
+        })
     }
 
     // Reads the table, which the image holds, from its start on.
@@ -93,6 +97,8 @@ impl<'a> Layout<'a> {
         requires { (table ≡ entry_at self.now.order self.now.image.now 0) × (entry_at self.now.order self.now.image.now 256 ≤ length self.now.image.now) }
         ensures { opened (λ s. s.order) section_in result ≡ sections_of self.now.order self.now.image.now }
     {
+        // Kept: the place goes on only past a feature that is set. A `zip` with `step_by` would need the set features as an
+        // iterator, the `filter` that `count_set` above does without.
         let mut index = Indexed::empty(self.order);
         let mut place = table;
         for n in 0..FEATURES {

@@ -7,7 +7,7 @@ ghost use Rattle.image.specs.Index.{section_in};
 ghost use Rattle.image.specs.Meaning.{opened};
 
 use crate::opened::{Opened, sized};
-use crate::run::{Entries, Front, index};
+use crate::run::{Entries, EntryRun, Front};
 use wire::order::{ByteOrder, tail};
 use wire::refusal::Refusal;
 
@@ -20,6 +20,8 @@ const VERSION: u16 = 1;
 const SECTION_AT: usize = 6;
 
 // The features that a head carries.
+// Kept: the numbers of `facts::Carried` once more. That crate lies above this one, and its facts are read from images; here
+// nothing but this test needs them, and an enum of fifteen with a conversion from u16 would hold the same list.
 fn is_carried(n: u16) -> bool
     ensures { result ≡ is_carried n }
 {
@@ -85,7 +87,12 @@ impl<'a> Opened<'a, Head> {
         if !is_head(image) || ByteOrder::Little.u16(tail(image, 3)) != Some(VERSION) {
             return Err(Refusal::WrongMark);
         }
-        let index = index(&Head, ByteOrder::Little, image, HEADER_SIZE)?;
+        let run = EntryRun {
+            order: ByteOrder::Little,
+            image,
+            from: HEADER_SIZE,
+        };
+        let index = run.index(&Head)?;
         Ok(Opened::new(index))
     }
 }

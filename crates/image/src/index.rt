@@ -1,12 +1,10 @@
 // An index of an image: for each feature number below 256 the bytes of its section, if it has one.
-ghost use Rattle.std.specs.Prelude.{◌≡◌, ℕ, ◌≤◌, length, None as none};
+ghost use Rattle.std.specs.Prelude.{◌≡◌, ℕ, length, None as none};
 ghost use Rattle.image.specs.Index.{features_of, section_in, Put};
 
+use crate::section::{LONGEST, Section};
 use crate::store::Store;
 use wire::order::ByteOrder;
-
-// The most bytes that an image has, and so a section.
-pub(crate) const MOST: usize = 16_777_216;
 
 // How many features there are.
 pub(crate) const FEATURES: usize = 256;
@@ -30,13 +28,13 @@ impl<'a> Indexed<'a> {
         }
     }
 
-    // Has some bytes stand for a feature, whatever stood for it before. A number above 255 is passed over.
-    pub(crate) fn put(&mut self, number: u64, bytes: &'a [u8])
-        requires { (length self.old.sections ≡ 256) × (length bytes.now ≤ 16777216) }
-        ensures { Put self.old self.new number bytes.now }
+    // Has a section stand for a feature, whatever stood for it before. A number above 255 is passed over.
+    pub(crate) fn put(&mut self, number: u64, section: Section<'a>)
+        requires { length self.old.sections ≡ 256 }
+        ensures { Put self.old self.new number section.entry.bytes.now }
     {
         if number < FEATURES as u64 {
-            self.sections[number as usize] = Some(bytes);
+            self.sections[number as usize] = Some(section.bytes);
         }
     }
 }
@@ -52,6 +50,6 @@ impl<'a> Store<'a> for Indexed<'a> {
 
     fn section(&self, number: u32) -> Option<&'a [u8]> {
         let bytes = (*self.sections.get(number as usize)?)?;
-        (bytes.len() <= MOST).then_some(bytes)
+        (bytes.len() <= LONGEST).then_some(bytes)
     }
 }

@@ -9,7 +9,7 @@ ghost use Rattle.image.specs.Meaning.{opened};
 
 use crate::mark::marked;
 use crate::opened::{Opened, sized};
-use crate::run::{Entries, Front, index};
+use crate::run::{Entries, EntryRun, Front};
 use wire::order::{ByteOrder, tail};
 use wire::refusal::Refusal;
 
@@ -92,7 +92,12 @@ impl<'a> Opened<'a, Pipe> {
     {
         sized(image, HEADER_SIZE)?;
         let order = marked(image, HEADER_SIZE as u64).ok_or(Refusal::WrongMark)?;
-        let index = index(&Records { order }, order, image, HEADER_SIZE)?;
+        let run = EntryRun {
+            order,
+            image,
+            from: HEADER_SIZE,
+        };
+        let index = run.index(&Records { order })?;
         Ok(Opened::new(index))
     }
 }

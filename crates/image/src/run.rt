@@ -7,6 +7,7 @@ ghost use Rattle.image.specs.Meaning.{opened};
 ghost use Rattle.image.specs.Run.{Reader, after, run_from, walked};
 
 use crate::index::Indexed;
+use crate::section::Section;
 use wire::order::ByteOrder;
 use wire::refusal::Refusal;
 
@@ -36,28 +37,38 @@ pub(crate) trait Entries {
         ensures { fault_of result ≡ image_fault number «at» };
 }
 
-// Reads the entries of an image from an offset on, front to back.
-pub(crate) fn index<'a, E: Entries>(
-    entries: &E,
-    order: ByteOrder,
-    image: &'a [u8],
-    from: usize,
-) -> Result<Indexed<'a>, Refusal>
-    requires { (from ≤ length image.now) × (length image.now ≤ 16777216) }
-    ensures { opened (λ s. s.order) section_in result ≡ walked E.number order (run_from (E.front entries.now) from image.now) }
-{
-    let mut index = Indexed::empty(order);
-    let mut before: Option<u64> = None;
-    let mut rest = &image[from..];
-    while rest.len() > 0 {
-        let Some(front) = entries.front(before, rest) else {
-            return Err(E::refusal((image.len() - rest.len()) as u32));
-        };
-        if let Some(number) = front.feature {
-            index.put(number, &rest[front.skip..front.size]);
-            before = front.feature;
+// The entries of an image from an offset on, and the order of their numbers.
+#[derive(Clone, Copy)]
+pub(crate) struct EntryRun<'a> {
+    pub(crate) order: ByteOrder,
+    pub(crate) image: &'a [u8],
+    pub(crate) from: usize,
+    ghost within: { from ≤ length image.now },
+    ghost short: { length image.now ≤ 16777216 },
+}
+
+impl<'a> EntryRun<'a> {
+    // Reads the entries, front to back.
+    pub(crate) fn index<E: Entries>(self, entries: &E) -> Result<Indexed<'a>, Refusal>
+        ensures { opened (λ s. s.order) section_in result ≡ walked E.number self.entry.order (run_from (E.front entries.now) self.entry.from self.entry.image.now) }
+    {
+        let mut index = Indexed::empty(self.order);
+        let mut before: Option<u64> = None;
+        let mut rest = &self.image[self.from..];
+        while rest.len() > 0 {
+            let Some(front) = entries.front(before, rest) else {
+                return Err(E::refusal((self.image.len() - rest.len()) as u32));
+            };
+            if let Some(number) = front.feature {
+                let section = Section {
+                    order: self.order,
+                    bytes: &rest[front.skip..front.size],
+                };
+                index.put(number, section);
+                before = front.feature;
+            }
+            rest = &rest[front.size..];
         }
-        rest = &rest[front.size..];
+        Ok(index)
     }
-    Ok(index)
 }

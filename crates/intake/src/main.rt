@@ -23,16 +23,16 @@ fn print_end(rt: &HostRuntime, requests: u64, held: usize) -> io::Result<()> {
 
 fn serve(rt: &HostRuntime) -> anyhow::Result<()> {
     let mut lines = Lines::new(rt)?;
-    if !lines.advance()? {
+    let Some(request) = lines.next_request()? else {
         return Ok(print_end(rt, 0, 0)?);
-    }
-    let (mut desk, taken) = first(rt, lines.request())?;
+    };
+    let (mut desk, taken) = first(rt, request)?;
     let mut requests = u64::from(taken);
     for _ in 0..u64::MAX {
-        if !lines.advance()? {
+        let Some(request) = lines.next_request()? else {
             break;
-        }
-        if answer(rt, &mut desk, lines.request())? {
+        };
+        if answer(rt, &mut desk, request)? {
             requests = requests.saturating_add(1);
         }
     }

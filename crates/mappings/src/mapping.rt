@@ -1,5 +1,5 @@
 // A section that is a table, read into lent rows: the same for each feature that maps keys to values.
-ghost use Rattle.std.specs.Prelude.{◌≡◌, ◌≤◌, ℕ, List, map, length, Result as Results};
+ghost use Rattle.std.specs.Prelude.{◌≡◌, ℕ, List, map, length, Result as Results};
 ghost use Rattle.perf_data.specs.Questions.{question, answered};
 ghost use Rattle.table.specs.Rows.{entry_of};
 ghost use Rattle.table.specs.declared.row.Row.{Row as Rows};
@@ -7,9 +7,10 @@ ghost use Rattle.wire.specs.declared.order.ByteOrder.{ByteOrder as ByteOrders};
 ghost use Rattle.wire.specs.declared.refusal.Fault.{Fault as Faults};
 ghost use Rattle.mappings.specs.Tables.{Made, with_value, counted, within, laid_out, laid_for, outcome, entries_in, bytes_in};
 
+use image::ask::section_of;
+use image::section::Section;
 use image::store::Store;
 use table::row::{Row, blank_all};
-use wire::order::ByteOrder;
 use wire::refusal::Refusal;
 
 // A feature whose section maps keys to values.
@@ -31,22 +32,20 @@ pub(crate) trait Mapping {
 
     // Reads a section into rows, to its end even when the rows have run out: a fault further on comes first. How many of the
     // rows are used, or none where they were too few.
-    fn read(order: ByteOrder, section: &[u8], rows: &mut [Row]) -> Result<Option<usize>, Refusal>
-        requires { length section.now ≤ 16777216 }
-        ensures made { Made (table order section.now) result rows.new }
+    fn read(section: Section<'_>, rows: &mut [Row]) -> Result<Option<usize>, Refusal>
+        ensures made { Made (table section.entry.order section.entry.bytes.now) result rows.new }
 
         // What the table's rows stand for is what the section means.
-        ensures tied { with_value (map (entry_of (key section.now) section.now)) (table order section.now) ≡ entries order section.now };
+        ensures tied { with_value (map (entry_of (key section.entry.bytes.now) section.entry.bytes.now)) (table section.entry.order section.entry.bytes.now) ≡ entries section.entry.order section.entry.bytes.now };
 }
 
 // How many rows the table of a section has. After a fault, and where there were too few rows, all are blank.
-fn settle<M: Mapping>(order: ByteOrder, section: &[u8], rows: &mut [Row]) -> Result<usize, Refusal>
-    requires { length section.now ≤ 16777216 }
-    ensures answer { outcome (λ n. n) result ≡ counted (within M.FEATURE (length rows.old) (M.entries order section.now)) }
-    ensures after { rows.new ≡ laid_out (length rows.old) (M.table order section.now) }
-    ensures entries { outcome (entries_in (M.key section.now) section.now rows.new) result ≡ within M.FEATURE (length rows.old) (M.entries order section.now) }
+fn settle<M: Mapping>(section: Section<'_>, rows: &mut [Row]) -> Result<usize, Refusal>
+    ensures answer { outcome (λ n. n) result ≡ counted (within M.FEATURE (length rows.old) (M.entries section.entry.order section.entry.bytes.now)) }
+    ensures after { rows.new ≡ laid_out (length rows.old) (M.table section.entry.order section.entry.bytes.now) }
+    ensures entries { outcome (entries_in (M.key section.entry.bytes.now) section.entry.bytes.now rows.new) result ≡ within M.FEATURE (length rows.old) (M.entries section.entry.order section.entry.bytes.now) }
 {
-    match M::read(order, section, rows) {
+    match M::read(section, rows) {
         Ok(used) => used.ok_or(Refusal::TooFewRows {
             feature: M::FEATURE,
         }),
@@ -67,9 +66,9 @@ pub(crate) fn table_of<'a, M: Mapping, S: Store<'a>>(
     ensures after { rows.new ≡ laid_for (length rows.old) (question M.table (S.endian store.now) ((S.map store.now).at M.FEATURE)) }
     ensures entries { answered (entries_in (M.key (bytes_in ((S.map store.now).at M.FEATURE))) (bytes_in ((S.map store.now).at M.FEATURE)) rows.new) result ≡ question (λ o s. within M.FEATURE (length rows.old) (M.entries o s)) (S.endian store.now) ((S.map store.now).at M.FEATURE) }
 {
-    let Some(section) = store.section(M::FEATURE) else {
+    let Some(section) = section_of(store, M::FEATURE) else {
         blank_all(rows);
         return Ok(None);
     };
-    Ok(Some(settle::<M>(store.order(), section, rows)?))
+    Ok(Some(settle::<M>(section, rows)?))
 }

@@ -8,6 +8,7 @@ ghost use Rattle.mappings.specs.MetaInfo.{pieces_from, first_pair, pair_row, met
 ghost use Rattle.mappings.specs.Tables.{counted, within, laid_for, outcome, entries_in, bytes_in};
 
 use crate::mapping::{Mapping, table_of};
+use image::section::Section;
 use image::store::Store;
 use perf_data::features::Feature;
 use table::fill::Fill;
@@ -15,7 +16,7 @@ use table::kind::Texts;
 use table::row::Row;
 use text::pieces::well_formed;
 use text::strings::before_nul;
-use wire::order::{ByteOrder, tail};
+use wire::order::tail;
 use wire::refusal::Refusal;
 
 // A key with its value.
@@ -37,19 +38,18 @@ fn ill_formed(at: usize) -> Refusal
 }
 
 // The row of the key that begins at an offset and of its value, if it has one; both are checked, the key first.
-fn read_pair(section: &[u8], at: usize) -> Result<Option<Row>, Refusal>
-    requires { length section.now ≤ 16777216 }
-    ensures { outcome (λ row. row) result ≡ first_pair pair_row (pieces_from section.now «at») }
+fn read_pair(section: Section<'_>, at: usize) -> Result<Option<Row>, Refusal>
+    ensures { outcome (λ row. row) result ≡ first_pair pair_row (pieces_from section.entry.bytes.now «at») }
 {
-    if at > section.len() {
+    if at > section.bytes.len() {
         return Ok(None);
     }
-    let key = before_nul(tail(section, at));
+    let key = before_nul(tail(section.bytes, at));
     let value_at = at + key.len() + 1;
-    if value_at > section.len() {
+    if value_at > section.bytes.len() {
         return Ok(None);
     }
-    let value = before_nul(tail(section, value_at));
+    let value = before_nul(tail(section.bytes, value_at));
     if !well_formed(key) {
         return Err(ill_formed(at));
     }
@@ -80,8 +80,11 @@ impl Mapping for MetaInfo {
 
     const FEATURE: u32 = Feature::SIMPLEPERF_META_INFO.0;
 
-    fn read(_order: ByteOrder, section: &[u8], rows: &mut [Row]) -> Result<Option<usize>, Refusal> {
-        let mut fill = Fill::start(Texts { section }, rows);
+    fn read(section: Section<'_>, rows: &mut [Row]) -> Result<Option<usize>, Refusal> {
+        let texts = Texts {
+            section: section.bytes,
+        };
+        let mut fill = Fill::start(texts, rows);
         let mut at = 0;
         while let Some(row) = read_pair(section, at)? {
             fill.add(row);

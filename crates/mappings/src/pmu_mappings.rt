@@ -1,5 +1,5 @@
 // PmuMappings::FEATURE, feature 16: the kernel's numbers of performance monitoring units, with their names.
-ghost use Rattle.std.specs.Prelude.{◌≡◌, ◌+◌, ◌≤◌, ℕ, length};
+ghost use Rattle.std.specs.Prelude.{◌≡◌, ◌-◌, ◌≤◌, ℕ, length};
 ghost use Rattle.wire.specs.Faults.{fault_of};
 ghost use Rattle.mappings.specs.PmuMappings.{cut, item_at, item_read, name_row, past_text, key_of, pmu_rows, pmu_names};
 ghost use Rattle.mappings.specs.Tables.{counted, within, laid_for, entries_in, bytes_in};
@@ -8,6 +8,7 @@ ghost use Rattle.table.specs.Rows.{entry_of};
 ghost use Rattle.mappings.specs.Entries.{of_pmu};
 
 use crate::mapping::{Mapping, table_of};
+use image::section::Section;
 use image::store::Store;
 use perf_data::features::Feature;
 use table::fill::Fill;
@@ -43,6 +44,7 @@ fn cut_short(at: usize) -> Refusal
 }
 
 // What follows a header text, whether it is well formed or not.
+// Kept: an order and bytes, as `read_string` takes them, since the bytes are a part of a section and no section.
 fn past_text(order: ByteOrder, s: &[u8]) -> &[u8]
     ensures { result.now ≡ past_text order s.now }
 {
@@ -50,16 +52,17 @@ fn past_text(order: ByteOrder, s: &[u8]) -> &[u8]
     tail(tail(s, 4), len as usize)
 }
 
-// The item that the bytes at an offset of the section begin with.
-fn read_item(order: ByteOrder, at: usize, s: &[u8]) -> Result<Item<'_>, Refusal>
-    requires { at + length s.now ≤ 16777216 }
-    ensures { item_read result ≡ item_at name_row order «at» s.now }
+// The item that the rest of a section begins with.
+fn read_item<'a>(section: Section<'a>, rest: &'a [u8]) -> Result<Item<'a>, Refusal>
+    requires { length rest.now ≤ length section.bytes.now }
+    ensures { item_read result ≡ item_at name_row section.entry.order (length section.entry.bytes.now - length rest.now) rest.now }
 {
-    let Some(number) = order.u32(s) else {
+    let at = section.bytes.len() - rest.len();
+    let Some(number) = section.order.u32(rest) else {
         return Err(cut_short(at));
     };
-    let text = tail(s, 4);
-    match read_string(order, text) {
+    let text = tail(rest, 4);
+    match read_string(section.order, text) {
         Ok((name, rest)) => {
             let row = Row {
                 number,
@@ -77,7 +80,7 @@ fn read_item(order: ByteOrder, at: usize, s: &[u8]) -> Result<Item<'_>, Refusal>
         Err(TextFault::PastEnd) => Err(cut_short(at + 8)),
         Err(TextFault::IllFormed) => Ok(Item {
             row: None,
-            rest: past_text(order, text),
+            rest: past_text(section.order, text),
         }),
     }
 }
@@ -97,14 +100,14 @@ impl Mapping for PmuMappings {
 
     const FEATURE: u32 = Feature::PMU_MAPPINGS.0;
 
-    fn read(order: ByteOrder, section: &[u8], rows: &mut [Row]) -> Result<Option<usize>, Refusal> {
-        let Some(count) = order.u32(section) else {
+    fn read(section: Section<'_>, rows: &mut [Row]) -> Result<Option<usize>, Refusal> {
+        let Some(count) = section.order.u32(section.bytes) else {
             return Err(cut_short(0));
         };
         let mut fill = Fill::start(Numbers, rows);
-        let mut rest = tail(section, 4);
-        for _k in 0..count {
-            let item = read_item(order, section.len() - rest.len(), rest)?;
+        let mut rest = tail(section.bytes, 4);
+        for _ in 0..count {
+            let item = read_item(section, rest)?;
             if let Some(row) = item.row {
                 fill.add(row);
             }

@@ -12,15 +12,8 @@ use hexadecimal::decode;
 use section_store::SectionStore;
 use std::io::{BufRead, BufReader};
 use table::row::Row;
+use table_cases::caller::DIRTY;
 use wire::order::ByteOrder;
-
-const DIRTY: Row = Row {
-    number: 7,
-    key_at: 7,
-    key_len: 7,
-    value_at: 7,
-    value_len: 7,
-};
 
 fn print_answer(
     rt: &HostRuntime,
@@ -55,14 +48,14 @@ fn print_line(rt: &HostRuntime, line: &str) -> anyhow::Result<()> {
     let (front, text) = line.split_once(" x").context(
         "a line is a question, an order, a number of rows, x and hexadecimal",
     )?;
-    let (question, rest) = front.split_once(' ').context("a line has no order")?;
+    let (word, rest) = front.split_once(' ').context("a line has no order")?;
     let (order, count) = rest
         .split_once(' ')
         .context("a line has no number of rows")?;
-    let question = question.parse::<Question>()?;
     let order = order.parse::<ByteOrder>()?;
     let mut rows = vec![in rt.alloc(); DIRTY; count.parse::<u16>()? as usize]?;
     let bytes = decode(rt.alloc(), text.as_bytes())?.context("a line has no whole hexadecimal")?;
+    let question = word.parse::<Question>()?;
     let store = SectionStore::new(order, question.asked_of.0, &bytes);
     print_answer(rt, question, &store, &mut rows)
 }

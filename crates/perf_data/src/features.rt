@@ -80,8 +80,9 @@ impl Feature {
     pub const SIMPLEPERF_FILE2: Feature = Feature(132);
 
     // The name that perf or simpleperf has for the feature, if it has one.
-    // Kept: a match over the constants. An enum with derives could not hold the numbers that have no name, which a store may
-    // have sections of, and a table of pairs, searched, would be as long and would need a proof of the search.
+    // Kept: a match over the constants. An enum would need a variant for the numbers that have no name, which a store may have
+    // sections of: `Other(3)` would be a second value for HOSTNAME, and each number would stand in two more matches, from a u32
+    // and to one. A table of pairs, searched, would be as long as the match.
     pub fn name(self) -> Option<&'static str>
         ensures { named result ≡ name_of self.0 }
     {

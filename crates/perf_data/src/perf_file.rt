@@ -6,6 +6,7 @@ ghost use Rattle.perf_data.specs.Texts.{feature_string, command_line};
 
 use crate::features::Feature;
 use crate::string_list::{StringList, read_string_list};
+use image::ask::section_of;
 use image::store::Store;
 use text::strings::{TextFault, read_string};
 use wire::refusal::Refusal;
@@ -17,11 +18,11 @@ pub fn feature_string<'a, S: Store<'a>>(
 ) -> Result<Option<&'a str>, Refusal>
     ensures { answered (λ x. x.now) result ≡ question (feature_string feature.0) (S.endian store.now) ((S.map store.now).at feature.0) }
 {
-    let Some(section) = store.section(feature.0) else {
+    let Some(section) = section_of(store, feature.0) else {
         return Ok(None);
     };
     let refused = |fault: TextFault| fault.refusal(feature.0, 0);
-    let (text, _) = read_string(store.order(), section).map_err(refused)?;
+    let (text, _) = read_string(section.order, section.bytes).map_err(refused)?;
     Ok(Some(text))
 }
 
@@ -71,8 +72,8 @@ pub fn cpu_id<'a, S: Store<'a>>(store: &S) -> Result<Option<&'a str>, Refusal>
 pub fn cmdline<'a, S: Store<'a>>(store: &S) -> Result<Option<StringList<'a>>, Refusal>
     ensures { answered to_come result ≡ question command_line (S.endian store.now) ((S.map store.now).at 11) }
 {
-    let Some(section) = store.section(Feature::CMDLINE.0) else {
+    let Some(section) = section_of(store, Feature::CMDLINE.0) else {
         return Ok(None);
     };
-    Ok(Some(read_string_list(store.order(), section)?))
+    Ok(Some(read_string_list(section)?))
 }

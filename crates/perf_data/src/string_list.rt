@@ -1,10 +1,11 @@
 // Lists of header texts: a u32 count, and that many texts.
-ghost use Rattle.std.specs.Prelude.{◌≡◌, ◌≤◌, length, drop};
+ghost use Rattle.std.specs.Prelude.{◌≡◌, length, drop};
 ghost use Rattle.perf_data.specs.Lists.{to_come, listed};
 ghost use Rattle.perf_data.specs.Texts.{command_line, first_fault, fault_in, texts_in};
 ghost use Rattle.std.specs.Iterator.{at_most, YieldsFirstRef};
 
 use crate::features::Feature;
+use image::section::Section;
 use text::strings::read_string;
 use wire::order::{ByteOrder, tail};
 use wire::refusal::Refusal;
@@ -39,16 +40,15 @@ impl<'a> Iterator for StringList<'a> {
 }
 
 // Looks at so many texts of a section, from its fifth byte on: the first fault, if there is one.
-fn check_texts(order: ByteOrder, section: &[u8], count: u32) -> Result<(), Refusal>
-    requires { length section.now ≤ 16777216 }
-    ensures { fault_in result ≡ first_fault (texts_in 11 order (length section.now) count (drop 4 section.now)) }
+fn check_texts(section: Section<'_>, count: u32) -> Result<(), Refusal>
+    ensures { fault_in result ≡ first_fault (texts_in 11 section.entry.order (length section.entry.bytes.now) count (drop 4 section.entry.bytes.now)) }
 {
-    let mut rest = tail(section, 4);
-    for _k in 0..count {
-        match read_string(order, rest) {
+    let mut rest = tail(section.bytes, 4);
+    for _ in 0..count {
+        match read_string(section.order, rest) {
             Ok((_, after)) => rest = after,
             Err(fault) => {
-                let at = section.len() - rest.len();
+                let at = section.bytes.len() - rest.len();
                 return Err(fault.refusal(Feature::CMDLINE.0, at as u32));
             }
         }
@@ -57,15 +57,17 @@ fn check_texts(order: ByteOrder, section: &[u8], count: u32) -> Result<(), Refus
 }
 
 // The list that a section is, all of it looked at.
-pub(crate) fn read_string_list(order: ByteOrder, section: &[u8]) -> Result<StringList<'_>, Refusal>
-    requires { length section.now ≤ 16777216 }
-    ensures { listed result ≡ command_line order section.now }
+pub(crate) fn read_string_list(section: Section<'_>) -> Result<StringList<'_>, Refusal>
+    ensures { listed result ≡ command_line section.entry.order section.entry.bytes.now }
 {
-    let count = order.u32(section).ok_or(Refusal::NoListCount)?;
-    check_texts(order, section, count)?;
+    let count = section
+        .order
+        .u32(section.bytes)
+        .ok_or(Refusal::NoListCount)?;
+    check_texts(section, count)?;
     Ok(StringList {
-        order,
+        order: section.order,
         left: count,
-        rest: tail(section, 4),
+        rest: tail(section.bytes, 4),
     })
 }

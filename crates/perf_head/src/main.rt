@@ -6,7 +6,7 @@ use head::from_image::write_image_head;
 use std::io;
 use std::io::{Read, Write};
 use table::row::Row;
-use wire::refusal::{Fault, Refusal};
+use wire::refusal::WithoutLayer;
 
 // No recording is longer here. One byte more is read, which tells that the input is.
 const LONGEST_IMAGE: usize = 65_536;
@@ -14,17 +14,6 @@ const LONGEST_IMAGE: usize = 65_536;
 const ROWS: usize = 4_096;
 
 const HEAD_BYTES: usize = 65_536;
-
-// The fault by number, feature and offset: the layer that `Refusal` is shown with is not written here.
-fn print_refusal(rt: &HostRuntime, refusal: Refusal) -> io::Result<()> {
-    let Fault {
-        number,
-        feature,
-        offset,
-        ..
-    } = refusal.fault();
-    println!(rt; "refused {number} {feature} {offset}")
-}
 
 fn main(rt: HostRuntime) -> io::Result<()> {
     let mut image = Vec::new(rt.alloc());
@@ -35,6 +24,9 @@ fn main(rt: HostRuntime) -> io::Result<()> {
     let mut out = vec![in rt.alloc(); 0u8; HEAD_BYTES]?;
     match write_image_head(&image, LONGEST_IMAGE, &mut rows, &mut out) {
         Ok(len) => rt.stdout().write_all(&out[..len]),
-        Err(refusal) => print_refusal(&rt, refusal),
+        Err(refusal) => {
+            let refused = WithoutLayer(refusal);
+            println!(rt; "{refused}")
+        }
     }
 }

@@ -1,17 +1,7 @@
-// What a section says, behind its length; and refusals, of a whole image or of one section.
+// What a section says, behind its length; or where it is refused.
 use crate::words::InWords;
 use std::{fmt, io};
-use wire::refusal::Refusal;
-
-impl fmt::Display for InWords<Refusal> {
-    fn fmt<W: fmt::Write>(&self, f: &mut fmt::Formatter<W>) -> fmt::Result {
-        let fault = self.0.fault();
-        let number = fault.number;
-        let feature = fault.feature;
-        let offset = fault.offset;
-        write!(f, "refused {number} {feature} {offset}")
-    }
-}
+use wire::refusal::{Refusal, WithoutLayer};
 
 // What an answer says, if anything; else the section's line is ended: with the refusal, if it is one.
 pub fn said<T: Copy>(
@@ -22,7 +12,7 @@ pub fn said<T: Copy>(
         Ok(Some(fact)) => return Ok(Some(fact)),
         Ok(None) => println!(rt; "")?,
         Err(refusal) => {
-            let refused = InWords(refusal);
+            let refused = WithoutLayer(refusal);
             println!(rt; ": {refused}")?;
         }
     }

@@ -8,11 +8,13 @@ mod tables;
 mod words;
 
 use answer::{print_answer, said};
+use build_ids::builds::Builds;
 use fixed_facts::perf_file::{
     clock_data, clock_frequency, compression_info, is_stats, nr_cpus, sample_time_range, total_mem,
 };
 use image::ask::section_of;
 use image::kinds::Image;
+use image::section::LONGEST;
 use image::store::Store;
 use perf_data::features::Feature;
 use perf_data::perf_file::{arch, cmdline, cpu_desc, cpu_id, hostname, os_release, perf_version};
@@ -20,12 +22,9 @@ use perf_data::string_list::StringList;
 use printable::Word;
 use std::io;
 use std::io::Read;
-use tables::{print_builds, print_meta, print_pmus, print_symbols};
-use wire::refusal::Refusal;
+use tables::{MetaTable, PmuTable, print_symbols, print_table};
+use wire::refusal::{Refusal, WithoutLayer};
 use words::InWords;
-
-// No image is longer. One byte more is read, which tells that the input is.
-const LONGEST_IMAGE: u64 = 16_777_216;
 
 // Each word has its own space in front, so that a list of no words ends its line with the colon.
 fn print_words(
@@ -51,7 +50,7 @@ fn print_fact<'a, S: Store<'a>>(
     section: &[u8],
 ) -> io::Result<()> {
     match feature {
-        Feature::BUILD_ID => print_builds(rt, store, section),
+        Feature::BUILD_ID => print_table(rt, store, Builds { section }, section.len()),
         Feature::HOSTNAME => print_answer(rt, hostname(store)),
         Feature::OSRELEASE => print_answer(rt, os_release(store)),
         Feature::VERSION => print_answer(rt, perf_version(store)),
@@ -61,9 +60,9 @@ fn print_fact<'a, S: Store<'a>>(
         Feature::NRCPUS => print_answer(rt, nr_cpus(store)),
         Feature::TOTAL_MEM => print_answer(rt, total_mem(store)),
         Feature::CMDLINE => print_words(rt, cmdline(store)),
-        Feature::PMU_MAPPINGS => print_pmus(rt, store, section.len()),
+        Feature::PMU_MAPPINGS => print_table(rt, store, PmuTable, section.len()),
         Feature::SIMPLEPERF_FILE => print_symbols(rt, store),
-        Feature::SIMPLEPERF_META_INFO => print_meta(rt, store, section.len()),
+        Feature::SIMPLEPERF_META_INFO => print_table(rt, store, MetaTable, section.len()),
         Feature::STAT if is_stats(store) => println!(rt; ": of perf stat"),
         Feature::SAMPLE_TIME => print_answer(rt, sample_time_range(store)),
         Feature::CLOCKID => print_answer(rt, clock_frequency(store)),
@@ -98,7 +97,7 @@ fn print_store<'a, S: Store<'a>>(rt: &HostRuntime, store: &S) -> io::Result<()> 
 fn print_image(rt: &HostRuntime, image: &[u8]) -> io::Result<()> {
     match Image::open(image) {
         Err(refusal) => {
-            let refused = InWords(refusal);
+            let refused = WithoutLayer(refusal);
             println!(rt; "{refused}")
         }
         Ok(store) => {
@@ -112,6 +111,7 @@ fn print_image(rt: &HostRuntime, image: &[u8]) -> io::Result<()> {
 
 fn main(rt: HostRuntime) -> io::Result<()> {
     let mut image = Vec::new(rt.alloc());
-    rt.stdin().take(LONGEST_IMAGE + 1).read_to_end(&mut image)?;
+    // one byte more, which tells that the input is longer than an image
+    rt.stdin().take(LONGEST as u64 + 1).read_to_end(&mut image)?;
     print_image(&rt, &image)
 }

@@ -28,63 +28,94 @@ fn rows_for(rt: &HostRuntime, len: usize) -> io::Result<Vec<Row>> {
     Ok(vec![in rt.alloc(); Row::BLANK; len / 2 + 1]?)
 }
 
-// How many entries a table has, if it is there and not refused. Answers how many rows there are then.
-fn print_count(
-    rt: &HostRuntime,
-    answer: Result<Option<usize>, Refusal>,
-    entries: &str,
-) -> io::Result<usize> {
-    let Some(used) = said(rt, answer)? else {
-        return Ok(0);
-    };
-    println!(rt; ": {used} {entries}")?;
-    Ok(used)
+// A table of a store.
+pub trait Table<'a, S: Store<'a>>: Copy {
+    // What its entries are called.
+    const ENTRIES: &'static str;
+
+    // How many rows it uses, if it is there.
+    fn read(self, store: &S, rows: &mut [Row]) -> Result<Option<usize>, Refusal>;
+
+    // What the entry of a row says.
+    fn entry(self, rt: &HostRuntime, store: &S, row: &Row) -> io::Result<Option<String>>;
 }
 
-// Kept: one function for the three tables, with a closure for an entry's line, was tried: the borrow checker does not cover
-// a closure that holds the store and is passed on, since nothing in the bound fixes the lifetime of the store's sections.
-pub fn print_pmus<'a, S: Store<'a>>(rt: &HostRuntime, store: &S, len: usize) -> io::Result<()> {
-    let mut rows = rows_for(rt, len)?;
-    let used = print_count(rt, pmu_mappings(store, &mut rows), "names")?;
-    for row in rows.iter().take(used) {
-        if let Some(entry) = pmu_entry(store, row) {
-            let name = escaped(rt, entry.name)?;
-            let number = entry.number;
-            println!(rt; "    {name} = {number}")?;
-        }
+#[derive(Clone, Copy)]
+pub struct PmuTable;
+
+impl<'a, S: Store<'a>> Table<'a, S> for PmuTable {
+    const ENTRIES: &'static str = "names";
+
+    fn read(self, store: &S, rows: &mut [Row]) -> Result<Option<usize>, Refusal> {
+        pmu_mappings(store, rows)
     }
-    Ok(())
+
+    fn entry(self, rt: &HostRuntime, store: &S, row: &Row) -> io::Result<Option<String>> {
+        let Some(entry) = pmu_entry(store, row) else {
+            return Ok(None);
+        };
+        let name = escaped(rt, entry.name)?;
+        let number = entry.number;
+        Ok(Some(format!(in rt.alloc(); "{name} = {number}")?))
+    }
 }
 
-pub fn print_meta<'a, S: Store<'a>>(rt: &HostRuntime, store: &S, len: usize) -> io::Result<()> {
-    let mut rows = rows_for(rt, len)?;
-    let used = print_count(rt, meta_info(store, &mut rows), "entries")?;
-    for row in rows.iter().take(used) {
-        if let Some(entry) = meta_entry(store, row) {
-            let key = escaped(rt, entry.key)?;
-            let value = escaped(rt, entry.value)?;
-            println!(rt; "    {key} = {value}")?;
-        }
+#[derive(Clone, Copy)]
+pub struct MetaTable;
+
+impl<'a, S: Store<'a>> Table<'a, S> for MetaTable {
+    const ENTRIES: &'static str = "entries";
+
+    fn read(self, store: &S, rows: &mut [Row]) -> Result<Option<usize>, Refusal> {
+        meta_info(store, rows)
     }
-    Ok(())
+
+    fn entry(self, rt: &HostRuntime, store: &S, row: &Row) -> io::Result<Option<String>> {
+        let Some(entry) = meta_entry(store, row) else {
+            return Ok(None);
+        };
+        let key = escaped(rt, entry.key)?;
+        let value = escaped(rt, entry.value)?;
+        Ok(Some(format!(in rt.alloc(); "{key} = {value}")?))
+    }
 }
 
 // Programs as `perf buildid-list` prints them, each with the name of its key behind it.
-pub fn print_builds<'a, S: Store<'a>>(
+impl<'a, S: Store<'a>> Table<'a, S> for Builds<'_> {
+    const ENTRIES: &'static str = "programs";
+
+    fn read(self, store: &S, rows: &mut [Row]) -> Result<Option<usize>, Refusal> {
+        build_ids(store, rows)
+    }
+
+    fn entry(self, rt: &HostRuntime, _store: &S, row: &Row) -> io::Result<Option<String>> {
+        let Some(key) = self.key(row) else {
+            return Ok(None);
+        };
+        let id = Hex(self.id(row));
+        let path = escaped(rt, self.path(row))?;
+        let name: Vec<u8> = key.name().collect(rt.alloc())?;
+        let name = escaped(rt, &name)?;
+        Ok(Some(format!(in rt.alloc(); "{id} {path} ({name})")?))
+    }
+}
+
+// How many entries a table has, behind the length of its section, and each on a line of its own.
+pub fn print_table<'a, S: Store<'a>, T: Table<'a, S>>(
     rt: &HostRuntime,
     store: &S,
-    section: &[u8],
+    table: T,
+    len: usize,
 ) -> io::Result<()> {
-    let mut rows = rows_for(rt, section.len())?;
-    let used = print_count(rt, build_ids(store, &mut rows), "programs")?;
-    let builds = Builds { section };
+    let mut rows = rows_for(rt, len)?;
+    let Some(used) = said(rt, table.read(store, &mut rows))? else {
+        return Ok(());
+    };
+    let entries = T::ENTRIES;
+    println!(rt; ": {used} {entries}")?;
     for row in rows.iter().take(used) {
-        if let Some(key) = builds.key(row) {
-            let id = Hex(builds.id(row));
-            let path = escaped(rt, builds.path(row))?;
-            let name: Vec<u8> = key.name().collect(rt.alloc())?;
-            let name = escaped(rt, &name)?;
-            println!(rt; "    {id} {path} ({name})")?;
+        if let Some(entry) = table.entry(rt, store, row)? {
+            println!(rt; "    {entry}")?;
         }
     }
     Ok(())

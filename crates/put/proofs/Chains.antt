@@ -34,10 +34,6 @@ puts_before {x} {y} {o} {p} {q} {a} {b} {r} {s} h e two one = record {
 pub puts_none : (o : List ℕ) (a : ℕ) → a < 2 ^ 64 → Puts [] o a a o
 puts_none o a h = record { goes = omega arith; leaves = sym (overlay-none o a) }
 
--- the same bytes under another name
-pub puts_same : {x y o p : List ℕ} {a r : ℕ} → x ≡ y → Puts x o a r p → Puts y o a r p
-puts_same {x} {y} {o} {p} {a} {r} e w = subst (λ z. Puts z o a r p) e w
-
 -- the same, of what a writer does to itself
 pub appends_then : {x y : List ℕ} {u v w : Writer} → Appends x u v → Appends y v w → Appends (x ++ y) u w
 appends_then {x} {y} {u} {v} {w} one two = record {
@@ -76,9 +72,6 @@ digits_long (suc w) n = ap suc (digits_long w (n / 256))
 pub bytes-long : (w n : ℕ) → length (bytes_of Little w n) ≡ w
 unfolding bytes_of
 bytes-long w n = digits_long w n
-
-pub puts_number : {o p : List ℕ} {a r : ℕ} (w n : ℕ) → r ≡ place (a + w) → p ≡ overlay o a (bytes_of Little w n) → Puts (bytes_of Little w n) o a r p
-puts_number w n e f = record { goes = omega (arith, e, bytes-long w n); leaves = f }
 
 digits_low : (w q n : ℕ) → digits w (n + 256 ^ w * q) ≡ digits w n
 digits_low zero q n = refl

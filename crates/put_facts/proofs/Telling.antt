@@ -1,5 +1,5 @@
 -- From what a question answers to the fact that a head has of it.
-use Rattle.std.proofs.Common.{◌≡◌, ℕ, Bool, true, false, List, [], map, take, is_some, IsErrAnd, Some, None, Ok, Err, Option, Result, sym, refl, ap, ◌∙◌, subst}
+use Rattle.std.proofs.Common.{◌≡◌, ℕ, Bool, false, List, [], map, take, is_some, IsErrAnd, Some, None, Ok, Err, Option, Result, sym, refl, ap, ◌∙◌, subst}
 use Rattle.std.specs.Bool.{then_some}
 use Rattle.wire.specs.Faults.{fault_of}
 use Rattle.wire.specs.declared.order.ByteOrder.{ByteOrder}
@@ -9,7 +9,6 @@ use Rattle.table.specs.declared.row.Row.{Row}
 use Rattle.perf_data.specs.Questions.{present, question, answered}
 use Rattle.facts.specs.Facts.{Fact, mark, fact_of, write}
 use Rattle.put.specs.declared.writer.Writer.{Writer}
-use Rattle.put.specs.Appends.{Appends}
 use Rattle.put.proofs.Chains.{appends_none}
 use Rattle.put_facts.specs.Writes.{Bytes, in_bytes, Writes}
 
@@ -54,9 +53,6 @@ mark_is x o (Some s) b r e f = ap (λ y. answered {V = List ℕ} (λ _. []) (Ok 
 
 -- what is written of an answer: its fact, or nothing
 module _ {X : Type 0} (bytes : X → List ℕ) {read : Result (Option X) Refusal} {u : Writer} where
-  pub writes_there : {v : Writer} (x : X) → read ≡ Ok (Some x) → Appends (bytes x) u v → Writes (answered bytes read) u (Ok true) v
-  writes_there {v} x is a = subst (λ r. Writes (answered bytes r) u (Ok true) v) (sym is) (record { answers = refl; appends = a })
-
   pub writes_absent : read ≡ Ok None → Writes (answered bytes read) u (Ok false) u
   writes_absent is = subst (λ r. Writes (answered bytes r) u (Ok false) u) (sym is) (record { answers = refl; appends = appends_none u })
 

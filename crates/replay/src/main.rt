@@ -10,7 +10,7 @@ use anyhow::{Context, anyhow};
 use std::io::{BufRead, BufReader};
 use table::row::Row;
 use tally::Tally;
-use verdict::{Verdict, judge};
+use verdict::{Case, Verdict};
 
 fn replay_line(rt: &HostRuntime, line: &str, rows: &mut [Row]) -> anyhow::Result<Verdict> {
     let (question, theirs) = line
@@ -18,7 +18,12 @@ fn replay_line(rt: &HostRuntime, line: &str, rows: &mut [Row]) -> anyhow::Result
         .context("a line without an answer of the Rust")?;
     let text = answer(rt.alloc(), question, rows)?;
     let ours = text.as_str();
-    let found = judge(question, ours, theirs);
+    let case = Case {
+        question,
+        ours,
+        theirs,
+    };
+    let found = case.judge();
     if found == Verdict::Other {
         println!(rt; "{question}\n    ours:   {ours}\n    theirs: {theirs}")?;
     }

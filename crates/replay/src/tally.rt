@@ -1,6 +1,6 @@
 // How many answers there were of each verdict.
 ghost use Rattle.std.specs.Prelude.{◌≡◌};
-ghost use Rattle.replay.specs.Counted.{counted};
+ghost use Rattle.replay.specs.Counted.{counted, more};
 
 use crate::verdict::Verdict;
 use std::fmt;
@@ -11,6 +11,13 @@ pub struct Tally {
     pub too_few_rows: u64,
     pub too_much_memory: u64,
     pub others: u64,
+}
+
+// A count, and one more where an answer counts for it.
+fn more(counts: bool, count: u64) -> u64
+    ensures { result ≡ more counts count }
+{
+    count.saturating_add(u64::from(counts))
 }
 
 impl Tally {
@@ -24,23 +31,11 @@ impl Tally {
     pub fn with(self, verdict: Verdict) -> Tally
         ensures { result ≡ counted self verdict }
     {
-        match verdict {
-            Verdict::Equal => Tally {
-                equal: self.equal.saturating_add(1),
-                ..self
-            },
-            Verdict::TooFewRows => Tally {
-                too_few_rows: self.too_few_rows.saturating_add(1),
-                ..self
-            },
-            Verdict::TooMuchMemory => Tally {
-                too_much_memory: self.too_much_memory.saturating_add(1),
-                ..self
-            },
-            Verdict::Other => Tally {
-                others: self.others.saturating_add(1),
-                ..self
-            },
+        Tally {
+            equal: more(verdict == Verdict::Equal, self.equal),
+            too_few_rows: more(verdict == Verdict::TooFewRows, self.too_few_rows),
+            too_much_memory: more(verdict == Verdict::TooMuchMemory, self.too_much_memory),
+            others: more(verdict == Verdict::Other, self.others),
         }
     }
 }

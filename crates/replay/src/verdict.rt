@@ -27,82 +27,94 @@ impl fmt::Display for Verdict {
     }
 }
 
-// The Rust's errors have no place, so its refusal is equal to any of ours.
-fn is_equal(ours: &str, theirs: &str) -> bool
-    ensures { result ≡ alike ours.now theirs.now }
-{
-    if theirs == "refused" {
-        return ours.starts_with("refused ");
-    }
-    ours == theirs
-}
-
 // A word of a text as a number.
 fn number_at(text: &str, place: usize) -> Option<u32> {
     text.split(' ').nth(place)?.parse::<u32>().ok()
 }
 
-// A table's refusal for want of rows; no other question has one.
-fn rows_refusal(question: &str) -> Option<&'static str>
-    ensures { IfSome result (λ t. refuses_rows t.now ≡ true) }
-{
-    match question.split_once(' ')?.0 {
-        "pmu_mappings" => Some("refused 31 4 16 0"),
-        "meta_info" => Some("refused 31 4 129 0"),
-        "build_ids" => Some("refused 31 4 2 0"),
-        _ => None,
-    }
+// A question with our answer and the Rust's.
+#[derive(Clone, Copy)]
+pub struct Case<'a> {
+    pub question: &'a str,
+    pub ours: &'a str,
+    pub theirs: &'a str,
 }
 
-// Whether an answer of the Rust has more rows than its question lends.
-fn has_more_rows(question: &str, theirs: &str) -> bool {
-    theirs.starts_with("rows ")
-        && number_at(question, 2)
-            .zip(number_at(theirs, 1))
-            .is_some_and(|(lent, taken)| taken > lent)
-}
-
-fn is_too_few_rows(question: &str, ours: &str, theirs: &str) -> bool
-    ensures { result ≡ true → refuses_rows ours.now ≡ true }
-{
-    match rows_refusal(question) {
-        Some(refusal) => ours == refusal && has_more_rows(question, theirs),
-        None => false,
-    }
-}
-
-// The refusals that stand where the Rust asks for too much memory: no section holds so much.
-fn refuses_count(question: &str, ours: &str) -> bool {
-    match question.split_once(' ') {
-        Some(("pmu_mappings", _)) => ours.starts_with("refused 11 2 16 "),
-        Some(("cmdline", _)) => {
-            ours.starts_with("refused 7 2 11 ")
-                || ours.starts_with("refused 9 2 11 ")
-                || ours.starts_with("refused 10 2 11 ")
+impl Case<'_> {
+    // The Rust's errors have no place, so its refusal is equal to any of ours.
+    fn is_equal(self) -> bool
+        ensures { result ≡ alike self.entry.ours.now self.entry.theirs.now }
+    {
+        if self.theirs == "refused" {
+            return self.ours.starts_with("refused ");
         }
-        _ => false,
+        self.ours == self.theirs
     }
-}
 
-fn is_too_much_memory(question: &str, ours: &str, theirs: &str) -> bool
-    ensures { result ≡ true → bytes_eq theirs.now (codes "rust: too much memory") ≡ true }
-{
-    theirs == "rust: too much memory" && refuses_count(question, ours)
-}
+    // A table's refusal for want of rows; no other question has one.
+    // Kept: a text: to display a `Refusal` into one takes memory, for want of which `judge` would fail, which never does.
+    fn rows_refusal(self) -> Option<&'static str>
+        ensures { IfSome result (λ t. refuses_rows t.now ≡ true) }
+    {
+        match self.question.split_once(' ')?.0 {
+            "pmu_mappings" => Some("refused 31 4 16 0"),
+            "meta_info" => Some("refused 31 4 129 0"),
+            "build_ids" => Some("refused 31 4 2 0"),
+            _ => None,
+        }
+    }
 
-pub fn judge(question: &str, ours: &str, theirs: &str) -> Verdict
-    ensures equal { is_equal result ≡ alike ours.now theirs.now }
-    ensures rows { is_rows result ≡ true → refuses_rows ours.now ≡ true }
-    ensures memory { is_memory result ≡ true → bytes_eq theirs.now (codes "rust: too much memory") ≡ true }
-{
-    if is_equal(ours, theirs) {
-        return Verdict::Equal;
+    // Whether an answer of the Rust has more rows than its question lends.
+    fn has_more_rows(self) -> bool {
+        self.theirs.starts_with("rows ")
+            && number_at(self.question, 2)
+                .zip(number_at(self.theirs, 1))
+                .is_some_and(|(lent, taken)| taken > lent)
     }
-    if is_too_few_rows(question, ours, theirs) {
-        return Verdict::TooFewRows;
+
+    fn is_too_few_rows(self) -> bool
+        ensures { result ≡ true → refuses_rows self.entry.ours.now ≡ true }
+    {
+        match self.rows_refusal() {
+            Some(refusal) => self.ours == refusal && self.has_more_rows(),
+            None => false,
+        }
     }
-    if is_too_much_memory(question, ours, theirs) {
-        return Verdict::TooMuchMemory;
+
+    // The refusals that stand where the Rust asks for too much memory: no section holds so much.
+    // Kept: as fronts of texts: with no offset at the end they are the text of no `Refusal`, which has one.
+    fn refuses_count(self) -> bool {
+        match self.question.split_once(' ') {
+            Some(("pmu_mappings", _)) => self.ours.starts_with("refused 11 2 16 "),
+            Some(("cmdline", _)) => {
+                self.ours.starts_with("refused 7 2 11 ")
+                    || self.ours.starts_with("refused 9 2 11 ")
+                    || self.ours.starts_with("refused 10 2 11 ")
+            }
+            _ => false,
+        }
     }
-    Verdict::Other
+
+    fn is_too_much_memory(self) -> bool
+        ensures { result ≡ true → bytes_eq self.entry.theirs.now (codes "rust: too much memory") ≡ true }
+    {
+        self.theirs == "rust: too much memory" && self.refuses_count()
+    }
+
+    pub fn judge(self) -> Verdict
+        ensures equal { is_equal result ≡ alike self.entry.ours.now self.entry.theirs.now }
+        ensures rows { is_rows result ≡ true → refuses_rows self.entry.ours.now ≡ true }
+        ensures memory { is_memory result ≡ true → bytes_eq self.entry.theirs.now (codes "rust: too much memory") ≡ true }
+    {
+        if self.is_equal() {
+            return Verdict::Equal;
+        }
+        if self.is_too_few_rows() {
+            return Verdict::TooFewRows;
+        }
+        if self.is_too_much_memory() {
+            return Verdict::TooMuchMemory;
+        }
+        Verdict::Other
+    }
 }

@@ -6,14 +6,12 @@ ghost use Rattle.image.specs.Ask.{in_order, answer};
 ghost use Rattle.section_store.specs.Sections.{features_in, features_of, section_of};
 
 use image::ask::{Section, section_of};
+use image::section::LONGEST;
 use image::store::Store;
 use wire::order::ByteOrder;
 
 // The last feature that there is.
 const LAST_FEATURE: u32 = 255;
-
-// The most bytes that a section has.
-const MOST_BYTES: usize = 16_777_216;
 
 #[derive(Clone, Copy)]
 pub struct SectionStore<'a> {
@@ -46,7 +44,7 @@ impl<'a> Store<'a> for SectionStore<'a> {
     }
 
     fn section(&self, number: u32) -> Option<&'a [u8]> {
-        if number > LAST_FEATURE || number != self.feature || self.bytes.len() > MOST_BYTES {
+        if number > LAST_FEATURE || number != self.feature || self.bytes.len() > LONGEST {
             return None;
         }
         Some(self.bytes)

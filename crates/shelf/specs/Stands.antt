@@ -1,6 +1,7 @@
 -- What a look-up finds.
-use Rattle.std.specs.Prelude.{◌≡◌, ℕ, ◌<◌, ◌≤◌, List, length, Option, Some, None}
+use Rattle.std.specs.Prelude.{◌≡◌, ℕ, ◌<◌, ◌≤◌, length, Option, Some, None}
 use Rattle.shelf.specs.declared.shelf.Group.{Group}
+use Rattle.shelf.specs.declared.shelf.Held.{Held}
 use Rattle.shelf.specs.Contents.{Contents, row_in}
 
 -- A group that stands at a place.
@@ -17,6 +18,6 @@ GroupAt c i None = (row_in c i).number ≡ 0
 GroupAt c i (Some g) = StandsAt c i g
 
 -- The place that is meant, and the group there.
-abbrev pub FindsGroup : Contents → Option ℕ → Option (ℕ × Group) → Type 0
+abbrev pub FindsGroup : Contents → Option ℕ → Option Held → Type 0
 FindsGroup c o None = o ≡ None
-FindsGroup c o (Some p) = (o ≡ Some p.0) × StandsAt c p.0 p.1
+FindsGroup c o (Some h) = (o ≡ Some h.place) × StandsAt c h.place h.group

@@ -15,7 +15,16 @@ mod sizes;
 pub struct Group {
     number: u32,
     count: u32,
+    // Kept: a length beside bytes that are elsewhere. A head has no memory of its own: it lies in a strip of fixed length, in the
+    // caller's bytes, which the shelf keeps.
     len: usize,
+}
+
+// A group that is held, and its place on the shelf.
+#[derive(Clone, Copy)]
+pub(crate) struct Held {
+    place: usize,
+    group: Group,
 }
 
 const MOST_STRIPS: usize = 64;

@@ -10,14 +10,13 @@ fn serve(rt: &HostRuntime) -> anyhow::Result<()> {
     let mut lines = Lines::new(rt)?;
     let (mut desk, _) = Desk::open(rt.alloc(), USUAL)?;
     for _ in 0..u64::MAX {
-        if !lines.advance()? {
+        let Some(request) = lines.next_request()? else {
             break;
-        }
-        match lines.request() {
-            Ok(Request::Open(opening)) => desk = open(rt, opening)?,
-            request => {
-                answer(rt, &mut desk, request)?;
-            }
+        };
+        if let Ok(Request::Open(opening)) = request {
+            desk = open(rt, opening)?;
+        } else {
+            answer(rt, &mut desk, request)?;
         }
     }
     Ok(())

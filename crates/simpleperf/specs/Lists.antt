@@ -7,4 +7,4 @@ use Rattle.simpleperf.specs.declared.list.ItemList.{ItemList}
 
 -- By how one item is read.
 abbrev pub to_come : {K V : Type 0} → (ByteOrder → ℕ → List ℕ → Result (Got V) Fault) → ItemList K → List V
-to_come reading l = readable (reading l.reader.order l.reader.size) l.left l.rest.now
+to_come reading l = readable (reading l.reader.order l.reader.size) l.left l.reader.rest.now

@@ -20,7 +20,7 @@ impl<'a> Listed<'a> for Offsets {
 
     ghost reading = { u64_in };
 
-    fn read(reader: Reader, bytes: &'a [u8]) -> Result<(u64, &'a [u8]), Refusal> {
-        reader.u64(bytes)
+    fn read(reader: &mut Reader<'a>) -> Result<u64, Refusal> {
+        reader.u64()
     }
 }

@@ -2,6 +2,7 @@
 ghost use Rattle.std.specs.Prelude.{◌≡◌};
 ghost use Rattle.simpleperf.specs.Got.{got_of};
 ghost use Rattle.simpleperf.specs.Answers.{file_of};
+ghost use Rattle.simpleperf.specs.Reading.{SameRecord};
 ghost use Rattle.simpleperf.specs.Types.{type_number};
 ghost use Rattle.simpleperf.specs.Tables.{type_in, file_in};
 
@@ -24,33 +25,29 @@ pub struct SimpleperfFileRecord<'a> {
     pub type_specific_msg: Option<SimpleperfTypeSpecificInfo<'a>>,
 }
 
-fn read_type(reader: Reader, bytes: &[u8]) -> Result<(DsoType, &[u8]), Refusal>
-    ensures { got_of type_number result ≡ type_in reader.order reader.size bytes.now }
+fn read_type(reader: &mut Reader<'_>) -> Result<DsoType, Refusal>
+    ensures reads { got_of type_number result reader.new.rest.now ≡ type_in reader.old.order reader.old.size reader.old.rest.now }
+    ensures record { SameRecord reader.old reader.new }
 {
-    let (number, rest) = reader.u32(bytes)?;
-    let at = reader.offset(bytes);
-    let file_type = DsoType::try_from(number).or(Err(Refusal::UnknownFileType { at }))?;
-    Ok((file_type, rest))
+    let at = reader.offset();
+    let number = reader.u32()?;
+    DsoType::try_from(number).or(Err(Refusal::UnknownFileType { at }))
 }
 
-// The record that so many bytes are, all of it looked at, and what follows its tail.
-pub(crate) fn read_file(
-    reader: Reader,
-    bytes: &[u8],
-) -> Result<(SimpleperfFileRecord<'_>, &[u8]), Refusal>
-    ensures { got_of file_of result ≡ file_in reader.order reader.size bytes.now }
+// The record that the reader has, all of it looked at. What follows its tail is left.
+pub(crate) fn read_file<'a>(reader: &mut Reader<'a>) -> Result<SimpleperfFileRecord<'a>, Refusal>
+    ensures { got_of file_of result reader.new.rest.now ≡ file_in reader.old.order reader.old.size reader.old.rest.now }
 {
-    let (path, rest) = reader.text(bytes)?;
-    let (file_type, rest) = read_type(reader, rest)?;
-    let (min_vaddr, rest) = reader.u64(rest)?;
-    let (symbol, rest) = read_counted(reader, rest)?;
-    let (type_specific_msg, rest) = read_info(reader, file_type, rest)?;
-    let file = SimpleperfFileRecord {
+    let path = reader.text()?;
+    let file_type = read_type(reader)?;
+    let min_vaddr = reader.u64()?;
+    let symbol = read_counted(reader)?;
+    let type_specific_msg = read_info(reader, file_type)?;
+    Ok(SimpleperfFileRecord {
         path,
         file_type,
         min_vaddr,
         symbol,
         type_specific_msg,
-    };
-    Ok((file, rest))
+    })
 }

@@ -37,46 +37,44 @@ pub enum SimpleperfTypeSpecificInfo<'a> {
 }
 
 // A u64, or the largest where no byte is left.
-fn read_u64_or_none(reader: Reader, bytes: &[u8]) -> Result<(u64, &[u8]), Refusal>
-    ensures { number_got result ≡ u64_or_none reader.order reader.size bytes.now }
+// Kept: the number stands for none. docs/FORMATS.md settles so, the two fields are numbers as in the format's other reader,
+// and a head's bytes have that number.
+fn read_u64_or_none(reader: &mut Reader<'_>) -> Result<u64, Refusal>
+    ensures { number_got result reader.new.rest.now ≡ u64_or_none reader.old.order reader.old.size reader.old.rest.now }
 {
-    match bytes {
-        [] => Ok((u64::MAX, bytes)),
-        _ => reader.u64(bytes),
+    match reader.rest {
+        [] => Ok(u64::MAX),
+        _ => reader.u64(),
     }
 }
 
 // The tail of a record, for a file's type.
-pub(crate) fn read_info(
-    reader: Reader,
+pub(crate) fn read_info<'a>(
+    reader: &mut Reader<'a>,
     file_type: DsoType,
-    bytes: &[u8],
-) -> Result<(Option<SimpleperfTypeSpecificInfo<'_>>, &[u8]), Refusal>
-    ensures { got_of info_of result ≡ info_in reader.order reader.size (type_number file_type) bytes.now }
+) -> Result<Option<SimpleperfTypeSpecificInfo<'a>>, Refusal>
+    ensures { got_of info_of result reader.new.rest.now ≡ info_in reader.old.order reader.old.size (type_number file_type) reader.old.rest.now }
 {
-    match file_type {
+    let info = match file_type {
         DsoType::DexFile => {
-            let (dex_file_offset, rest) = read_counted(reader, bytes)?;
-            let info = SimpleperfDexFileInfo { dex_file_offset };
-            Ok((
-                Some(SimpleperfTypeSpecificInfo::SimpleperfDexFileInfo(info)),
-                rest,
-            ))
+            let dex_file_offset = read_counted(reader)?;
+            SimpleperfTypeSpecificInfo::SimpleperfDexFileInfo(SimpleperfDexFileInfo {
+                dex_file_offset,
+            })
         }
         DsoType::ElfFile => {
-            let (file_offset_of_min_vaddr, rest) = read_u64_or_none(reader, bytes)?;
-            let info = SimpleperfElfFileInfo {
+            let file_offset_of_min_vaddr = read_u64_or_none(reader)?;
+            SimpleperfTypeSpecificInfo::ElfFile(SimpleperfElfFileInfo {
                 file_offset_of_min_vaddr,
-            };
-            Ok((Some(SimpleperfTypeSpecificInfo::ElfFile(info)), rest))
+            })
         }
         DsoType::KernelModule => {
-            let (memory_offset_of_min_vaddr, rest) = read_u64_or_none(reader, bytes)?;
-            let info = SimpleperfKernelModuleInfo {
+            let memory_offset_of_min_vaddr = read_u64_or_none(reader)?;
+            SimpleperfTypeSpecificInfo::KernelModule(SimpleperfKernelModuleInfo {
                 memory_offset_of_min_vaddr,
-            };
-            Ok((Some(SimpleperfTypeSpecificInfo::KernelModule(info)), rest))
+            })
         }
-        DsoType::Kernel | DsoType::SymbolMapFile | DsoType::UnknownFile => Ok((None, bytes)),
-    }
+        DsoType::Kernel | DsoType::SymbolMapFile | DsoType::UnknownFile => return Ok(None),
+    };
+    Ok(Some(info))
 }

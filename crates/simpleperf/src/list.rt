@@ -4,6 +4,7 @@ ghost use Rattle.std.specs.Iterator.{YieldsFirstBy, at_most};
 ghost use Rattle.simpleperf.specs.Got.{got_of, left_of};
 ghost use Rattle.simpleperf.specs.Lists.{to_come};
 ghost use Rattle.simpleperf.specs.Parse.{Got, items, rest_of};
+ghost use Rattle.simpleperf.specs.Reading.{SameRecord};
 ghost use Rattle.simpleperf.specs.Tables.{counted};
 ghost use Rattle.wire.specs.declared.order.ByteOrder.{ByteOrder as Order};
 ghost use Rattle.wire.specs.declared.refusal.Fault.{Fault};
@@ -24,17 +25,17 @@ pub trait Listed<'a>: Copy {
     // How one is read, where so many bytes are the whole.
     ghost reading: { Order → ℕ → List ℕ → Result (Got Value) Fault };
 
-    fn read(reader: Reader, bytes: &'a [u8]) -> Result<(Self::Item, &'a [u8]), Refusal>
-        ensures { got_of value result ≡ reading reader.order reader.size bytes.now };
+    fn read(reader: &mut Reader<'a>) -> Result<Self::Item, Refusal>
+        ensures reads { got_of value result reader.new.rest.now ≡ reading reader.old.order reader.old.size reader.old.rest.now }
+        ensures record { SameRecord reader.old reader.new };
 }
 
 // Items that have all been looked at, given one after the other. They lie in the section.
 #[derive(Clone, Copy)]
 pub struct ItemList<'a, K> {
-    pub(crate) reader: Reader,
+    pub(crate) reader: Reader<'a>,
     // no more items come
     pub(crate) left: u32,
-    pub(crate) rest: &'a [u8],
     pub(crate) of: PhantomData<K>,
 }
 
@@ -49,10 +50,9 @@ impl<'a, K: Listed<'a>> Iterator for ItemList<'a, K> {
         if self.left == 0 {
             return None;
         }
-        match K::read(self.reader, self.rest) {
-            Ok((item, rest)) => {
+        match K::read(&mut self.reader) {
+            Ok(item) => {
                 self.left -= 1;
-                self.rest = rest;
                 Some(item)
             }
             Err(_) => {
@@ -63,36 +63,30 @@ impl<'a, K: Listed<'a>> Iterator for ItemList<'a, K> {
     }
 }
 
-// Looks at so many items, and answers the bytes after them.
-fn check<'a, K: Listed<'a>>(
-    reader: Reader,
-    count: u32,
-    bytes: &'a [u8],
-) -> Result<&'a [u8], Refusal>
-    ensures { left_of result ≡ rest_of (items (K.reading reader.order reader.size) count bytes.now) }
+// Looks at so many items.
+fn check<'a, K: Listed<'a>>(reader: &mut Reader<'a>, count: u32) -> Result<(), Refusal>
+    ensures reads { left_of result reader.new.rest.now ≡ rest_of (items (K.reading reader.old.order reader.old.size) count reader.old.rest.now) }
+    ensures record { SameRecord reader.old reader.new }
 {
-    let mut rest = bytes;
     for _ in 0..count {
-        let (_, after) = K::read(reader, rest)?;
-        rest = after;
+        K::read(reader)?;
     }
-    Ok(rest)
+    Ok(())
 }
 
 // A count and that many items, all of them looked at.
 pub(crate) fn read_counted<'a, K: Listed<'a>>(
-    reader: Reader,
-    bytes: &'a [u8],
-) -> Result<(ItemList<'a, K>, &'a [u8]), Refusal>
-    ensures { got_of (to_come K.reading) result ≡ counted K.reading reader.order reader.size bytes.now }
+    reader: &mut Reader<'a>,
+) -> Result<ItemList<'a, K>, Refusal>
+    ensures reads { got_of (to_come K.reading) result reader.new.rest.now ≡ counted K.reading reader.old.order reader.old.size reader.old.rest.now }
+    ensures record { SameRecord reader.old reader.new }
 {
-    let (left, rest) = reader.count(bytes)?;
-    let after = check::<K>(reader, left, rest)?;
+    let left = reader.count()?;
     let list = ItemList {
-        reader,
+        reader: *reader,
         left,
-        rest,
         of: PhantomData,
     };
-    Ok((list, after))
+    check::<K>(reader, left)?;
+    Ok(list)
 }

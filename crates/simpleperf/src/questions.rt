@@ -8,18 +8,19 @@ ghost use Rattle.simpleperf.specs.Tables.{symbol_tables};
 use crate::file::SimpleperfFileRecord;
 use crate::info::SimpleperfTypeSpecificInfo;
 use crate::symbol::SimpleperfSymbol;
-use crate::tables::{SIMPLEPERF_FILE, SymbolTables, read_tables};
+use crate::tables::{SymbolTables, read_tables};
+use image::ask::section_of;
 use image::store::Store;
+use perf_data::features::Feature;
 use wire::refusal::Refusal;
 
 // The files that the recording saw, with their symbols. A fault anywhere in the section is the answer.
 pub fn symbol_tables<'a, S: Store<'a>>(store: &S) -> Result<Option<SymbolTables<'a>>, Refusal>
     ensures { answered files_of result ≡ question symbol_tables (S.endian store.now) ((S.map store.now).at 128) }
 {
-    let Some(section) = store.section(SIMPLEPERF_FILE) else {
-        return Ok(None);
-    };
-    Ok(Some(read_tables(store.order(), section)?))
+    section_of(store, Feature::SIMPLEPERF_FILE.0)
+        .map(read_tables)
+        .transpose()
 }
 
 // One of these files, by its number from 0; none past the last.
@@ -43,11 +44,10 @@ pub fn symbol<'a, S: Store<'a>>(
 ) -> Result<Option<SimpleperfSymbol<'a>>, Refusal>
     ensures { answered symbol_of result ≡ of_file (symbol_at i) (one_of k (question symbol_tables (S.endian store.now) ((S.map store.now).at 128))) }
 {
-    let Some(file) = symbol_table(store, k)? else {
+    let Some(mut file) = symbol_table(store, k)? else {
         return Ok(None);
     };
-    let mut symbols = file.symbol;
-    Ok(symbols.nth(i))
+    Ok(file.symbol.nth(i))
 }
 
 // One of its dex offsets, by its number from 0; none past the last, and of another file none.
@@ -61,9 +61,8 @@ pub fn dex_offset<'a, S: Store<'a>>(store: &S, k: usize, i: usize) -> Result<Opt
         return Ok(None);
     };
     match info {
-        SimpleperfTypeSpecificInfo::SimpleperfDexFileInfo(dex) => {
-            let mut offsets = dex.dex_file_offset;
-            Ok(offsets.nth(i))
+        SimpleperfTypeSpecificInfo::SimpleperfDexFileInfo(mut dex) => {
+            Ok(dex.dex_file_offset.nth(i))
         }
         _ => Ok(None),
     }

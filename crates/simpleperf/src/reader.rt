@@ -2,81 +2,81 @@
 ghost use Rattle.std.specs.Prelude.{◌≡◌, ◌-◌, length};
 ghost use Rattle.simpleperf.specs.Got.{got_of, number_got, text_got};
 ghost use Rattle.simpleperf.specs.Parse.{read_number};
+ghost use Rattle.simpleperf.specs.Reading.{SameRecord};
 ghost use Rattle.simpleperf.specs.Tables.{fault_at, u32_in, u64_in, text_in, count_in};
 
-use std::str::from_utf8_unchecked;
-use text::pieces::well_formed;
-use text::strings::before_nul;
+use text::strings::{as_text, before_nul};
 use wire::order::{ByteOrder, tail};
 use wire::refusal::Refusal;
 
-// Reads from the front of the bytes that are left of a record or a section, and answers with the bytes after what it read.
+// Reads from the front of the bytes that are left of a record or a section. What it read is left no more; where it refuses,
+// nothing is said of what is left.
 #[derive(Clone, Copy)]
-pub struct Reader {
+pub struct Reader<'a> {
     pub(crate) order: ByteOrder,
     // of the whole record or section: it and the bytes that are left tell the offset
     pub(crate) size: u32,
+    pub(crate) rest: &'a [u8],
 }
 
-impl Reader {
-    // The offset at which the bytes `left` begin.
-    pub(crate) fn offset(self, left: &[u8]) -> u32
-        ensures { result ≡ self.size - length left.now }
+impl<'a> Reader<'a> {
+    // The offset of the next byte.
+    pub(crate) fn offset(&self) -> u32
+        ensures { result ≡ self.now.size - length self.now.rest.now }
     {
-        (self.size as usize).saturating_sub(left.len()) as u32
+        (self.size as usize).saturating_sub(self.rest.len()) as u32
     }
 
-    // The number of so many bytes that these begin with, and the bytes behind it; none where they are too few.
-    fn behind<T: Copy>(
-        self,
-        number: Option<T>,
-        width: usize,
-        bytes: &[u8],
-    ) -> Result<(T, &[u8]), Refusal>
-        ensures { got_of (λ n. n) result ≡ read_number (fault_at 11 self.size bytes.now) width bytes.now number }
+    // The number of so many bytes that is next, or none where they are too few.
+    fn number<T: Copy>(&mut self, number: Option<T>, width: usize) -> Result<T, Refusal>
+        ensures reads { got_of (λ n. n) result self.new.rest.now ≡ read_number (fault_at 11 self.old.size self.old.rest.now) width self.old.rest.now number }
+        ensures record { SameRecord self.old self.new }
     {
-        let at = self.offset(bytes);
+        let at = self.offset();
         let n = number.ok_or(Refusal::SymbolRecordCutShort { at })?;
-        Ok((n, tail(bytes, width)))
+        self.rest = tail(self.rest, width);
+        Ok(n)
     }
 
-    pub(crate) fn u32(self, bytes: &[u8]) -> Result<(u32, &[u8]), Refusal>
-        ensures { number_got result ≡ u32_in self.order self.size bytes.now }
+    pub(crate) fn u32(&mut self) -> Result<u32, Refusal>
+        ensures reads { number_got result self.new.rest.now ≡ u32_in self.old.order self.old.size self.old.rest.now }
+        ensures record { SameRecord self.old self.new }
     {
-        self.behind(self.order.u32(bytes), 4, bytes)
+        self.number(self.order.u32(self.rest), 4)
     }
 
-    pub(crate) fn u64(self, bytes: &[u8]) -> Result<(u64, &[u8]), Refusal>
-        ensures { number_got result ≡ u64_in self.order self.size bytes.now }
+    pub(crate) fn u64(&mut self) -> Result<u64, Refusal>
+        ensures reads { number_got result self.new.rest.now ≡ u64_in self.old.order self.old.size self.old.rest.now }
+        ensures record { SameRecord self.old self.new }
     {
-        self.behind(self.order.u64(bytes), 8, bytes)
+        self.number(self.order.u64(self.rest), 8)
     }
 
     // A text that ends before its NUL.
-    pub(crate) fn text(self, bytes: &[u8]) -> Result<(&str, &[u8]), Refusal>
-        ensures { text_got result ≡ text_in self.size bytes.now }
+    pub(crate) fn text(&mut self) -> Result<&'a str, Refusal>
+        ensures reads { text_got result self.new.rest.now ≡ text_in self.old.size self.old.rest.now }
+        ensures record { SameRecord self.old self.new }
     {
-        let at = self.offset(bytes);
-        let text = before_nul(bytes);
-        if text.len() == bytes.len() {
+        let at = self.offset();
+        let bytes = before_nul(self.rest);
+        if bytes.len() == self.rest.len() {
             return Err(Refusal::NoNul { at });
         }
-        if !well_formed(text) {
-            return Err(Refusal::IllFormedSymbolText { at });
-        }
-        let after = tail(bytes, text.len() + 1);
-        Ok((unsafe { from_utf8_unchecked(text) }, after))
+        let text = as_text(bytes).ok_or(Refusal::IllFormedSymbolText { at })?;
+        self.rest = tail(self.rest, bytes.len() + 1);
+        Ok(text)
     }
 
     // A count of items that follow it, each of a byte at least.
-    pub(crate) fn count(self, bytes: &[u8]) -> Result<(u32, &[u8]), Refusal>
-        ensures { number_got result ≡ count_in self.order self.size bytes.now }
+    pub(crate) fn count(&mut self) -> Result<u32, Refusal>
+        ensures reads { number_got result self.new.rest.now ≡ count_in self.old.order self.old.size self.old.rest.now }
+        ensures record { SameRecord self.old self.new }
     {
-        let (count, rest) = self.u32(bytes)?;
-        if count as usize > rest.len() {
-            let at = self.offset(bytes);
+        let at = self.offset();
+        let count = self.u32()?;
+        if count as usize > self.rest.len() {
             return Err(Refusal::CountTooLarge { at });
         }
-        Ok((count, rest))
+        Ok(count)
     }
 }

@@ -29,10 +29,10 @@ impl<'a> Listed<'a> for Symbols {
 
     ghost reading = { symbol_in };
 
-    fn read(reader: Reader, bytes: &'a [u8]) -> Result<(SimpleperfSymbol<'a>, &'a [u8]), Refusal> {
-        let (vaddr, rest) = reader.u64(bytes)?;
-        let (len, rest) = reader.u32(rest)?;
-        let (name, rest) = reader.text(rest)?;
-        Ok((SimpleperfSymbol { vaddr, len, name }, rest))
+    fn read(reader: &mut Reader<'a>) -> Result<SimpleperfSymbol<'a>, Refusal> {
+        let vaddr = reader.u64()?;
+        let len = reader.u32()?;
+        let name = reader.text()?;
+        Ok(SimpleperfSymbol { vaddr, len, name })
     }
 }

@@ -1,5 +1,5 @@
 // The symbol tables of a recording: records of files, each with its length before it.
-ghost use Rattle.std.specs.Prelude.{◌≡◌, ◌≤◌, length};
+ghost use Rattle.std.specs.Prelude.{◌≡◌};
 ghost use Rattle.perf_data.specs.Texts.{first_fault, fault_in};
 ghost use Rattle.simpleperf.specs.Answers.{tables_of};
 ghost use Rattle.simpleperf.specs.Parse.{run};
@@ -8,11 +8,11 @@ ghost use Rattle.simpleperf.specs.Tables.{File, sized_file, symbol_tables};
 use crate::file::{SimpleperfFileRecord, read_file};
 use crate::list::{ItemList, Listed};
 use crate::reader::Reader;
+use image::ask::Section;
+use perf_data::features::Feature;
 use std::marker::PhantomData;
-use wire::order::{ByteOrder, tail};
+use wire::order::tail;
 use wire::refusal::Refusal;
-
-pub(crate) const SIMPLEPERF_FILE: u32 = 128;
 
 #[derive(Clone, Copy)]
 pub struct Files;
@@ -31,50 +31,49 @@ impl<'a> Listed<'a> for Files {
 
     ghost reading = { sized_file };
 
-    fn read(
-        reader: Reader,
-        bytes: &'a [u8],
-    ) -> Result<(SimpleperfFileRecord<'a>, &'a [u8]), Refusal> {
+    fn read(reader: &mut Reader<'a>) -> Result<SimpleperfFileRecord<'a>, Refusal> {
         let order = reader.order;
-        let at = reader.offset(bytes);
-        let size = order.u32(bytes).ok_or(Refusal::CutShort {
-            feature: SIMPLEPERF_FILE,
+        let at = reader.offset();
+        let size = order.u32(reader.rest).ok_or(Refusal::CutShort {
+            feature: Feature::SIMPLEPERF_FILE.0,
             at,
         })?;
-        let (inside, after) = tail(bytes, 4)
+        let (rest, after) = tail(reader.rest, 4)
             .split_at_checked(size as usize)
             .ok_or(Refusal::RecordOutside { at })?;
-        let (file, _) = read_file(Reader { order, size }, inside)?;
-        Ok((file, after))
+        let mut record = Reader { order, size, rest };
+        let file = read_file(&mut record)?;
+        reader.rest = after;
+        Ok(file)
     }
 }
 
 // Looks at all records of a section: the first fault, if there is one.
-fn check_files(reader: Reader, section: &[u8]) -> Result<(), Refusal>
-    ensures { fault_in result ≡ first_fault (run (sized_file reader.order reader.size) section.now) }
+fn check_files(mut reader: Reader<'_>) -> Result<(), Refusal>
+    ensures { fault_in result ≡ first_fault (run (sized_file reader.entry.order reader.entry.size) reader.entry.rest.now) }
 {
-    let mut rest = section;
     // Kept: how long a record is stands in the record, so neither a range nor chunks give its bytes. `SymbolTables` stops at
     // a fault without telling it, and this walk is there to tell it.
-    while !rest.is_empty() {
-        let (_, after) = Files::read(reader, rest)?;
-        rest = after;
+    while !reader.rest.is_empty() {
+        Files::read(&mut reader)?;
     }
     Ok(())
 }
 
 // The files of a section, all of them looked at. There are at most as many as it has bytes.
-pub(crate) fn read_tables(order: ByteOrder, section: &[u8]) -> Result<SymbolTables<'_>, Refusal>
-    requires { length section.now ≤ 16777216 }
-    ensures { tables_of result ≡ symbol_tables order section.now }
+pub(crate) fn read_tables(section: Section<'_>) -> Result<SymbolTables<'_>, Refusal>
+    ensures { tables_of result ≡ symbol_tables section.entry.order section.entry.bytes.now }
 {
-    let size = section.len() as u32;
-    let reader = Reader { order, size };
-    check_files(reader, section)?;
+    let size = section.bytes.len() as u32;
+    let reader = Reader {
+        order: section.order,
+        size,
+        rest: section.bytes,
+    };
+    check_files(reader)?;
     Ok(ItemList {
         reader,
         left: size,
-        rest: section,
         of: PhantomData,
     })
 }

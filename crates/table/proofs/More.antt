@@ -45,14 +45,15 @@ module _ {K : Type 0} (o : Order K) (key : Row → K) (given rows : List Row) (r
     at p is = is (subst (Rising o key) (sym front) (rises o key given)) ∙ ap (λ xs. placed o key xs r) front
 
     -- over the row i, which has its key
-    pub over_same : (i : ℕ) → (Rising o key (take used rows) → Ok i ≡ placed o key (take used rows) r) → (after : List Row) → after ≡ set rows i r → After (Some used) after
+    pub over_same : (i : ℕ) → (Rising o key (take used rows) → Ok i ≡ placed o key (take used rows) r) → (after : List Row) → after ≡ set rows i r → After (Some n) after
     over_same i is after after_is =
         let put = put-at o key old r i (at (Ok i) is) in
         let e : new ≡ set old i r = tabled-more o key given r ∙ put.1 in
         let l : length new ≡ length old = ap length e ∙ length-set old i r in
         let m : length after ≡ length rows = ap length after_is ∙ length-set rows i r in
         let w = whole in
-        let b : length rows - used ≡ length after - used = omega arith in (
+        let f = fill.0 in
+        let b : length rows - used ≡ length after - n = omega arith in (
           omega arith,
           omega arith,
           after_is ∙ ap (λ xs. set xs i r) after_old ∙ set-append_left old (blanks (length rows - used)) i r put.0 ∙ (λ j. sym e j ++ blanks (b j)),

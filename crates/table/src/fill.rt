@@ -1,12 +1,12 @@
 // A table made in lent rows, item by item, by a reader that goes on when the rows have run out.
-ghost use Rattle.std.specs.Prelude.{◌≡◌, List, [], ◌∷◌, ◌++◌, length, Some};
+ghost use Rattle.std.specs.Prelude.{◌≡◌, ◌≤◌, List, [], ◌∷◌, ◌++◌, length, take};
 ghost use Rattle.table.specs.Fills.{Filled, Holds, IsSameFill, fits, laid};
 ghost use Rattle.table.specs.Rows.{blanks};
-ghost use Rattle.table.specs.Table.{tabled};
+ghost use Rattle.table.specs.Table.{Rising, Within, placed};
 ghost use Rattle.table.specs.declared.row.Row.{Row as Rows};
 
 use crate::kind::Kind;
-use crate::place::{place, put_in};
+use crate::place::{place, put_first};
 use crate::row::{Row, blank_all};
 
 // A table that is being made in lent rows, by keys of one kind.
@@ -16,28 +16,6 @@ pub struct Fill<'r, K> {
     rows: &'r mut [Row],
     // How many of the rows are used, from the first on; none where they were too few, and all are blank.
     used: Option<usize>,
-}
-
-// `Fill::add` where the rows did not run out before: how many are used then. No more are used than there are, whatever the
-// caller says.
-fn insert<K: Kind>(kind: &K, rows: &mut [Row], used: usize, row: Row) -> Option<usize>
-    ensures { (given : List Rows) → Holds (tabled K.order (K.key kind.now) given) (Some used) rows.old → Holds (tabled K.order (K.key kind.now) (given ++ row ∷ [])) result rows.new }
-{
-    let used = rows.len().min(used);
-    match place(kind, &rows[..used], &row) {
-        Ok(i) => {
-            rows[i] = row;
-            Some(used)
-        }
-        Err(_) if used == rows.len() => {
-            blank_all(rows);
-            None
-        }
-        Err(i) => {
-            put_in(rows, i, used, row);
-            Some(used + 1)
-        }
-    }
 }
 
 impl<'r, K: Kind> Fill<'r, K> {
@@ -56,14 +34,35 @@ impl<'r, K: Kind> Fill<'r, K> {
         }
     }
 
+    // Where `row` belongs among the rows that are used.
+    fn place(&self, used: usize, row: &Row) -> Result<usize, usize>
+        requires { used ≤ length self.now.rows.now }
+        ensures within { Within result used }
+        ensures is { Rising K.order (K.key self.now.kind) (take used self.now.rows.now) → result ≡ placed K.order (K.key self.now.kind) (take used self.now.rows.now) row.now }
+    {
+        place(&self.kind, &self.rows[..used], row)
+    }
+
     // Puts one more row into the table of those given before; a row with the same key gives way to it. Where it is one row
     // too many, all are blanked, and no further row is put there.
     pub fn add(&mut self, row: Row)
         ensures same { IsSameFill self.new self.old }
         ensures added { (given : List Rows) → Filled K.order K.key given self.old → Filled K.order K.key (given ++ row ∷ []) self.new }
     {
-        if let Some(used) = self.used {
-            self.used = insert(&self.kind, self.rows, used, row);
+        let Some(used) = self.used else {
+            return;
+        };
+        let used = self.rows.len().min(used);
+        match self.place(used, &row) {
+            Ok(i) => self.rows[i] = row,
+            Err(_) if used == self.rows.len() => {
+                blank_all(self.rows);
+                self.used = None;
+            }
+            Err(i) => {
+                put_first(&mut self.rows[i..=used], row);
+                self.used = Some(used + 1);
+            }
         }
     }
 

@@ -1,5 +1,5 @@
 // Where a row belongs in a table, and how it is put there.
-ghost use Rattle.std.specs.Prelude.{◌≡◌, ◌+◌, ◌-◌, ◌<◌, ◌≤◌, ◌∷◌, ◌++◌, length, take, drop};
+ghost use Rattle.std.specs.Prelude.{◌≡◌, ◌-◌, ◌<◌, ◌∷◌, length, take};
 ghost use Rattle.table.specs.Table.{Rising, placed, Within};
 
 use crate::kind::Kind;
@@ -17,12 +17,11 @@ pub(crate) fn place<K: Kind>(kind: &K, rows: &[Row], row: &Row) -> Result<usize,
     }
 }
 
-// Puts `row` at `i`, and the rows from there up to `used` one place up.
-pub(crate) fn put_in(rows: &mut [Row], i: usize, used: usize, row: Row)
-    requires place { i ≤ used }
-    requires space { used < length rows.old }
-    ensures { rows.new ≡ take i rows.old ++ (row ∷ (take (used - i) (drop i rows.old) ++ drop (used + 1) rows.old)) }
+// Puts `row` first, and the others one place up: the last of them is lost.
+pub(crate) fn put_first(rows: &mut [Row], row: Row)
+    requires { 0 < length rows.old }
+    ensures { rows.new ≡ row ∷ take (length rows.old - 1) rows.old }
 {
-    rows.copy_within(i..used, i + 1);
-    rows[i] = row;
+    rows.copy_within(..rows.len() - 1, 1);
+    rows[0] = row;
 }

@@ -7,6 +7,15 @@ use table::fill::Fill;
 use table::kind::Kind;
 use table::row::Row;
 
+// A row that was used for something else: a table's rows come in as they are.
+pub const DIRTY: Row = Row {
+    number: 7,
+    key_at: 7,
+    key_len: 7,
+    value_at: 7,
+    value_len: 7,
+};
+
 pub fn tabulate<K: Kind>(kind: &K, rows: &mut [Row], given: &[Row]) -> Option<usize>
     ensures count { result ≡ fits (length rows.old) (tabled K.order (K.key kind.now) given.now) }
     ensures table { rows.new ≡ laid (length rows.old) (tabled K.order (K.key kind.now) given.now) }

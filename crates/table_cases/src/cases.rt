@@ -1,17 +1,9 @@
 // Cases of tables: each row's value tells which of the rows given it is.
-use crate::caller::tabulate;
+use crate::caller::{DIRTY, tabulate};
 use crate::named::Named;
 use crate::reader::{Refused, read};
 use table::kind::{Numbers, Texts};
 use table::row::Row;
-
-const DIRTY: Row = Row {
-    number: 7,
-    key_at: 7,
-    key_len: 7,
-    value_at: 7,
-    value_len: 7,
-};
 
 fn number(number: u32, value_at: u32) -> Row {
     Row {

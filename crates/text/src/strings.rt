@@ -1,10 +1,10 @@
 // Header texts: a length of four bytes, and then that many bytes, of which the text is those before the first NUL.
-ghost use Rattle.std.specs.Prelude.{◌≡◌};
+ghost use Rattle.std.specs.Prelude.{◌≡◌, true, false, MatchOption};
+ghost use Rattle.text.specs.Pieces.{well_formed};
 ghost use Rattle.text.specs.Refusals.{refusal_of};
 ghost use Rattle.text.specs.Strings.{before_nul, header_text, read_of};
 
-use crate::pieces::well_formed;
-use std::str::from_utf8_unchecked;
+use std::str::from_utf8;
 use wire::order::ByteOrder;
 use wire::refusal::Refusal;
 
@@ -49,6 +49,13 @@ pub fn before_nul(bytes: &[u8]) -> &[u8]
     }
 }
 
+// The bytes as a text; none where they are ill formed.
+pub fn as_text(bytes: &[u8]) -> Option<&str>
+    ensures { MatchOption result (well_formed bytes.now ≡ false) (λ s. (s.now ≡ bytes.now) × (well_formed bytes.now ≡ true)) }
+{
+    from_utf8(bytes).ok()
+}
+
 // Reads the text at the front of a section, and answers it with the bytes after the full length. The text is cut at its
 // first NUL before it is checked, so what stands after the NUL may be ill formed.
 pub fn read_string<'s>(
@@ -63,9 +70,6 @@ pub fn read_string<'s>(
     let (field, after) = rest
         .split_at_checked(len as usize)
         .ok_or(TextFault::PastEnd)?;
-    let text = before_nul(field);
-    if !well_formed(text) {
-        return Err(TextFault::IllFormed);
-    }
-    Ok((unsafe { from_utf8_unchecked(text) }, after))
+    let text = as_text(before_nul(field)).ok_or(TextFault::IllFormed)?;
+    Ok((text, after))
 }

@@ -9,8 +9,15 @@ use std::fmt;
 // The number of a feature where none is meant: one above the last that an image can have.
 pub const NO_FEATURE: u32 = 256;
 
-// The feature that symbol records are of.
+// The features that a case is always of: the command line, the clock data, the symbol records and the symbol tables of
+// the second format.
+const CMDLINE: u32 = 11;
+
+const CLOCK_DATA: u32 = 29;
+
 const SYMBOLS: u32 = 128;
+
+const SECOND_SYMBOLS: u32 = 132;
 
 // What an offset counts from.
 #[derive(Clone, Copy, PartialEq, Eq, Debug)]
@@ -29,7 +36,7 @@ pub enum Layer {
 pub struct Fault {
     pub number: u32,
     pub layer: Layer,
-    // or NO_FEATURE
+    // Kept: the rules settle that a refusal's feature is 256 where none is meant (docs/REFUSALS.md), so it is a number.
     pub feature: u32,
     pub offset: u32,
 }
@@ -121,7 +128,7 @@ impl Refusal {
             Refusal::SectionTooSmall { feature } => Fault::new(6, Layer::Section, feature, 0),
             Refusal::RecordOutside { at } => Fault::new(6, Layer::Section, SYMBOLS, at),
             Refusal::NoTextLength { feature, at } => Fault::new(7, Layer::Section, feature, at),
-            Refusal::NoListCount => Fault::new(8, Layer::Section, 11, 0),
+            Refusal::NoListCount => Fault::new(8, Layer::Section, CMDLINE, 0),
             Refusal::TextOutside { feature, at } => Fault::new(9, Layer::Section, feature, at),
             Refusal::IllFormedText { feature, at } => Fault::new(10, Layer::Section, feature, at),
             Refusal::IllFormedSymbolText { at } => Fault::new(10, Layer::SymbolRecord, SYMBOLS, at),
@@ -132,11 +139,11 @@ impl Refusal {
                 SYMBOLS,
                 at,
             ),
-            Refusal::WrongClockVersion => Fault::new(12, Layer::Section, 29, 0),
+            Refusal::WrongClockVersion => Fault::new(12, Layer::Section, CLOCK_DATA, 0),
             Refusal::UnknownFileType { at } => Fault::new(13, Layer::SymbolRecord, SYMBOLS, at),
             Refusal::CountTooLarge { at } => Fault::new(14, Layer::SymbolRecord, SYMBOLS, at),
             Refusal::NoNul { at } => Fault::new(15, Layer::SymbolRecord, SYMBOLS, at),
-            Refusal::SecondFormatPresent => Fault::new(16, Layer::Section, 132, 0),
+            Refusal::SecondFormatPresent => Fault::new(16, Layer::Section, SECOND_SYMBOLS, 0),
             Refusal::BadEntry { at } => Fault::new(17, Layer::Image, NO_FEATURE, at),
             Refusal::TooFewRows { feature } => Fault::new(31, Layer::State, feature, 0),
             Refusal::TooLittleRoom => Fault::new(32, Layer::State, NO_FEATURE, 0),
@@ -168,3 +175,23 @@ impl fmt::Display for Refusal {
 }
 
 impl Error for Refusal {}
+
+// A refusal by its number, feature and offset alone.
+#[derive(Clone, Copy, PartialEq, Eq, Debug)]
+pub struct WithoutLayer(pub Refusal);
+
+impl fmt::Display for WithoutLayer {
+    ghost use Rattle.wire.specs.Shown.{short_refusal_text};
+
+    ghost output = { λ w. Some (short_refusal_text w.0) };
+
+    fn fmt<W: fmt::Write>(&self, f: &mut fmt::Formatter<W>) -> fmt::Result {
+        let Fault {
+            number,
+            feature,
+            offset,
+            ..
+        } = self.0.fault();
+        write!(f, "refused {number} {feature} {offset}")
+    }
+}

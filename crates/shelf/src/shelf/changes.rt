@@ -5,7 +5,7 @@ ghost use Rattle.shelf.specs.Rows.{row_of, FitsStrip};
 ghost use Rattle.shelf.specs.Calls.{recount, fresh};
 ghost use Rattle.shelf.specs.Stands.{StandsAt};
 
-use super::{Group, Shelf};
+use super::{Group, Held, Shelf};
 
 // Writes 0 into every byte.
 pub(crate) fn wipe(out: &mut [u8])
@@ -25,13 +25,19 @@ fn fill_strip(strip: &mut [u8], front: &[u8])
 }
 
 impl Shelf {
-    // The group at a place has this count.
-    pub(crate) fn recount(&mut self, i: usize, group: Group, count: u32)
-        requires { StandsAt self.old i group }
-        ensures { self.new ≡ put self.old i (recount (row_in self.old i) count) }
+    // A group that is held has this count.
+    pub(crate) fn recount(&mut self, held: Held, count: u32)
+        requires { StandsAt self.old held.place held.group }
+        ensures { self.new ≡ put self.old held.place (recount (row_in self.old held.place) count) }
     {
-        self.groups[i] = Some(Group { count, ..group });
+        self.groups[held.place] = Some(Group {
+            count,
+            ..held.group
+        });
     }
+
+    // Kept: that there is such a place, and that a head fits its strip, are clauses here and of `clear` and `keep`. A type for a
+    // place could carry them only with a borrow of the shelf, and the shelf is changed at the place.
 
     // A place gets a group or none, with `head` at the front of its strip and 0 behind.
     fn put(&mut self, i: usize, group: Option<Group>, head: &[u8])

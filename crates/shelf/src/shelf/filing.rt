@@ -37,10 +37,10 @@ impl Shelf {
         ensures answer { outcome result ≡ file_answer self.old (Ok head.now) }
         ensures after { self.new ≡ file_after self.old (Ok head.now) }
     {
-        if let Some((i, group)) = self.keeping(head) {
-            let count = group.count.checked_add(1).ok_or(Refusal::CountFull)?;
-            self.recount(i, group, count);
-            return Ok(group.number);
+        if let Some(held) = self.keeping(head) {
+            let count = held.group.count.checked_add(1).ok_or(Refusal::CountFull)?;
+            self.recount(held, count);
+            return Ok(held.group.number);
         }
         let i = self.free_place().ok_or(Refusal::NoFreeStrip)?;
         let number = self.next.ok_or(Refusal::NumbersUsedUp)?;

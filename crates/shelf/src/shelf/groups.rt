@@ -11,8 +11,8 @@ impl Shelf {
     pub(crate) fn tally(&self, number: u32) -> Result<u32, Refusal>
         ensures { outcome result ≡ count_answer self.now number }
     {
-        let (_, group) = self.place_of(number).ok_or(Refusal::GroupNotHeld)?;
-        Ok(group.count)
+        let held = self.place_of(number).ok_or(Refusal::GroupNotHeld)?;
+        Ok(held.group.count)
     }
 
     // What `release` does.
@@ -20,11 +20,11 @@ impl Shelf {
         ensures answer { outcome result ≡ release_answer self.old number }
         ensures after { self.new ≡ release_after self.old number }
     {
-        let (i, group) = self.place_of(number).ok_or(Refusal::GroupNotHeld)?;
-        if group.count > 1 {
-            self.recount(i, group, group.count - 1);
+        let held = self.place_of(number).ok_or(Refusal::GroupNotHeld)?;
+        if held.group.count > 1 {
+            self.recount(held, held.group.count - 1);
         } else {
-            self.clear(i);
+            self.clear(held.place);
         }
         Ok(())
     }
@@ -34,8 +34,8 @@ impl Shelf {
         ensures answer { outcome result ≡ length_of (head_shown self.now number (length out.old)) }
         ensures after { out.new ≡ ahead (head_shown self.now number (length out.old)) out.old }
     {
-        let (i, group) = self.place_of(number).ok_or(Refusal::GroupNotHeld)?;
-        let head = self.head_at(i, group);
+        let held = self.place_of(number).ok_or(Refusal::GroupNotHeld)?;
+        let head = self.head_at(held);
         if head.len() > out.len() {
             return Err(Refusal::TooLittleRoom);
         }

@@ -1,12 +1,12 @@
 // Where groups stand on a shelf.
-ghost use Rattle.std.specs.Prelude.{◌≡◌, ◌<◌, length};
+ghost use Rattle.std.specs.Prelude.{◌≡◌};
 ghost use Rattle.std.specs.Option.{is_none};
 ghost use Rattle.shelf.specs.Contents.{row_in};
 ghost use Rattle.shelf.specs.Rows.{holds};
 ghost use Rattle.shelf.specs.Calls.{first_with, is_numbered, has_head, place_of, free_place};
 ghost use Rattle.shelf.specs.Stands.{StandsAt, GroupAt, FindsGroup};
 
-use super::{Group, Shelf};
+use super::{Group, Held, Shelf};
 
 // The first strip that is held for the group with a number.
 fn numbered(groups: &[Option<Group>], number: u32) -> Option<usize>
@@ -32,40 +32,37 @@ impl Shelf {
         first_free(&self.groups[..self.strips])
     }
 
-    // The group at a place, if it is not free.
+    // The group at a place, if there is one.
     fn group_at(&self, i: usize) -> Option<Group>
-        requires { i < length self.now.rows }
         ensures { GroupAt self.now i result }
     {
-        let groups = &self.groups[..self.strips];
-        groups[i]
+        *self.groups[..self.strips].get(i)?
     }
 
     // The place of the group with a number, and the group.
-    pub(crate) fn place_of(&self, number: u32) -> Option<(usize, Group)>
+    pub(crate) fn place_of(&self, number: u32) -> Option<Held>
         ensures { FindsGroup self.now (place_of self.now number) result }
     {
         let i = numbered(&self.groups[..self.strips], number)?;
         let group = self.group_at(i)?;
-        Some((i, group))
+        Some(Held { place: i, group })
     }
 
-    // The head of the group at a place.
-    pub(crate) fn head_at(&self, i: usize, group: Group) -> &[u8]
-        requires { StandsAt self.now i group }
-        ensures { result.now ≡ (row_in self.now i).head }
+    // The head of a group that is held.
+    pub(crate) fn head_at(&self, held: Held) -> &[u8]
+        requires { StandsAt self.now held.place held.group }
+        ensures { result.now ≡ (row_in self.now held.place).head }
     {
-        let from = i * self.strip;
-        &self.bytes[from..from + group.len]
+        let from = held.place * self.strip;
+        &self.bytes[from..from + held.group.len]
     }
 
     // Whether the group at a place keeps `head`.
     fn keeps(&self, i: usize, head: &[u8]) -> bool
-        requires { i < length self.now.rows }
         ensures { result ≡ has_head head.now (row_in self.now i) }
     {
         match self.group_at(i) {
-            Some(group) => self.head_at(i, group) == head,
+            Some(group) => self.head_at(Held { place: i, group }) == head,
             None => false,
         }
     }
@@ -78,11 +75,11 @@ impl Shelf {
     }
 
     // That place, and the group.
-    pub(crate) fn keeping(&self, head: &[u8]) -> Option<(usize, Group)>
+    pub(crate) fn keeping(&self, head: &[u8]) -> Option<Held>
         ensures { FindsGroup self.now (first_with (has_head head.now) self.now.rows) result }
     {
         let i = self.place_keeping(head)?;
         let group = self.group_at(i)?;
-        Some((i, group))
+        Some(Held { place: i, group })
     }
 }

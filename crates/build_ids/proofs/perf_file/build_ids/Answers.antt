@@ -1,9 +1,5 @@
 use Rattle.build_ids.proofs.Entries.{entries_stand}
 use Rattle.build_ids.proofs.perf_file.build_ids.Goals as goal
 
-pub returns : goal.returns
-returns g c = record {
-  is = c.read.ensures.is;
-  after = c.read.ensures.after;
-  entries = entries_stand _ _;
-}
+pub returns-clause-entries : goal.returns-clause-entries
+returns-clause-entries g c = entries_stand _ _

@@ -3,7 +3,6 @@ use Rattle.std.proofs.lemmas.List.{length-drop}
 use Rattle.table.specs.Fills.{Holds, fits, laid}
 use Rattle.table.specs.Table.{tabled}
 use Rattle.dso_key.specs.Order.{keys}
-use Rattle.build_ids.specs.declared.build_id_events.BuildIdEvents.{BuildIdEvents}
 use Rattle.build_ids.specs.Events.{event, event_of, records}
 use Rattle.build_ids.specs.Rows.{row_key, row_table, rows_from}
 use Rattle.build_ids.proofs.Reading.{event-size}
@@ -11,28 +10,15 @@ use Rattle.build_ids.proofs.Parts.{path-short, id-short}
 use Rattle.build_ids.proofs.Filling.{here, rows_end, rows_kept, rows-passed}
 use Rattle.build_ids.proofs.perf_file.tabulate.Goals as goal
 
-pub loop-at-init : goal.loop-at-init
-loop-at-init c =
-    let s = c.args.section.now in
-    let made = c.into_iter-at-iterator.ensures.into_iter_gives in
-    let front : c.into_iter-at-iterator.result.at ≡ 0 = ap (λ (x : BuildIdEvents). x.at) made ∙ c.new-at-items.ensures.at in (
-      [],
-      c.start-fill.ensures.holds,
-      sym (ap (λ n. rows_from n (records c.args.order (drop n s))) front),
-      ap (λ (x : BuildIdEvents). x.order) made ∙ c.new-at-items.ensures.order,
-      (refl, refl, refl),
-      ap (λ (x : BuildIdEvents). x.section.now) made ∙ c.new-at-items.ensures.section,
-    )
-
 pub row_of-requires : goal.row_of-requires
 row_of-requires c =
-    let s = c.args.section.now in
-    let o = c.args.order in
+    let s = c.args.section.bytes.now in
+    let o = c.args.section.order in
     let at = c.in-Some.at in
     let e = event_of c.in-Some.event in
     let inv = c.loop-at.invariant in
     let given = c.in-Some.ensures.steps in
-    let h : event o (drop at s) ≡ Some e = here (Some e) inv.3 inv.5 given.0 given.1 in
+    let h : event o (drop at s) ≡ Some e = here (Some e) inv.3 given.0 given.1 in
     let z = event-size o (drop at s) e h in
     record {
       at = omega (arith, z.0, z.1, length-drop at s);
@@ -42,57 +28,55 @@ row_of-requires c =
 
 pub loop-at-preserved-in-Some-row_of : goal.loop-at-preserved-in-Some-row_of
 loop-at-preserved-in-Some-row_of c =
-    let s = c.args.section.now in
-    let o = c.args.order in
+    let s = c.args.section.bytes.now in
+    let o = c.args.section.order in
     let at = c.in-Some.at in
     let e = event_of c.in-Some.event in
     let inv = c.loop-at.invariant in
     let so_far = inv.0 in
     let row = c.in-Some-row_of.row in
     let given = c.in-Some.ensures.steps in
-    let h : event o (drop at s) ≡ Some e = here (Some e) inv.3 inv.5 given.0 given.1 in
+    let h : event o (drop at s) ≡ Some e = here (Some e) inv.3 given.0 given.1 in
     let is : rows_from 0 (records o s) ≡ so_far ++ rows_from at (records o (drop at s)) =
     inv.2 ∙ ap (λ n. so_far ++ rows_from n (records o (drop n s))) (sym given.0) in
-    let next : at + e.size ≡ c.next.new.self.at = ap (λ n. n + e.size) given.0 ∙ sym given.4 in (
+    let next : at + e.size ≡ c.next.new.self.at = ap (λ n. n + e.size) given.0 ∙ sym given.3 in (
       so_far ++ row ∷ [],
       c.add.ensures.added so_far inv.1,
       rows_kept o s so_far at is e h row c.in-Some-row_of.ensures ∙ ap (λ n. (so_far ++ row ∷ []) ++ rows_from n (records o (drop n s))) next,
       given.2 ∙ inv.3,
       search rules,
-      given.3 ∙ inv.5,
     )
 
 pub loop-at-preserved : goal.loop-at-preserved
 loop-at-preserved c =
-    let s = c.args.section.now in
-    let o = c.args.order in
+    let s = c.args.section.bytes.now in
+    let o = c.args.section.order in
     let at = c.in-Some.at in
     let e = event_of c.in-Some.event in
     let inv = c.loop-at.invariant in
     let so_far = inv.0 in
     let given = c.in-Some.ensures.steps in
-    let h : event o (drop at s) ≡ Some e = here (Some e) inv.3 inv.5 given.0 given.1 in
+    let h : event o (drop at s) ≡ Some e = here (Some e) inv.3 given.0 given.1 in
     let is : rows_from 0 (records o s) ≡ so_far ++ rows_from at (records o (drop at s)) =
     inv.2 ∙ ap (λ n. so_far ++ rows_from n (records o (drop n s))) (sym given.0) in
-    let next : at + e.size ≡ c.next.new.self.at = ap (λ n. n + e.size) given.0 ∙ sym given.4 in (
+    let next : at + e.size ≡ c.next.new.self.at = ap (λ n. n + e.size) given.0 ∙ sym given.3 in (
       so_far,
       inv.1,
       rows-passed o s so_far at is e h c.in_default.ensures ∙ ap (λ n. so_far ++ rows_from n (records o (drop n s))) next,
       given.2 ∙ inv.3,
       search rules,
-      given.3 ∙ inv.5,
     )
 
 pub returns : goal.returns
 unfolding row_table
 returns c =
-    let s = c.args.section.now in
-    let o = c.args.order in
+    let s = c.args.section.bytes.now in
+    let o = c.args.section.order in
     let inv = c.loop-at.invariant in
     let so_far = inv.0 in
     let fill = c.loop-at.fill in
     let at = c.loop-at.at-iterator.at in
-    let h : event o (drop at s) ≡ None = here None inv.3 inv.5 refl c.in-None.ensures.steps in
+    let h : event o (drop at s) ≡ None = here None inv.3 refl c.in-None.ensures.steps in
     let all = ap (tabled keys (row_key s)) (rows_end o s so_far at inv.2 h) in
     let kind : row_key fill.kind.section.now ≡ row_key s = ap (λ kind. row_key kind.section.now) (inv.4.0 ∙ c.start-fill.ensures.same_kind) in
     let n : length fill.rows.now ≡ length c.args.rows.now = search rules in

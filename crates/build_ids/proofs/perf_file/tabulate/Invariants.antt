@@ -11,7 +11,6 @@ abbrev pub invariant-loop-at : goal.invariant-loop-at
 invariant-loop-at l =
     (so_far : List Row)
     × Filled keys (λ kind. row_key kind.section.now) so_far l.fill
-    × (rows_from 0 (records l.fn.order l.fn.section) ≡ so_far ++ rows_from l.at-iterator.at (records l.fn.order (drop l.at-iterator.at l.fn.section)))
-    × (l.at-iterator.order ≡ l.fn.order)
+    × (rows_from 0 (records l.fn.section.order l.fn.section.bytes.now) ≡ so_far ++ rows_from l.at-iterator.at (records l.fn.section.order (drop l.at-iterator.at l.fn.section.bytes.now)))
+    × (l.at-iterator.section ≡ l.fn.section)
     × IsSameFill l.fill l.initial.fill
-    × (l.at-iterator.section.now ≡ l.fn.section)

@@ -5,8 +5,8 @@ use Rattle.perf_data.proofs.string_list.read_string_list.Goals as goal
 
 pub returns : goal.returns
 returns c =
-    let s : List ℕ = c.args.section.now in
+    let s : List ℕ = c.args.section.bytes.now in
     let clean = sym c.in_ok-check_texts.ensures in
     let count = c.in_ok-count.count in
-    ap (λ t. Ok (readable c.args.order count t)) c.tail.ensures
-    ∙ sym (ap (counted c.args.order s) (sym c.u32.ensures.is ∙ c.in_ok-count.ensures.ok_part) ∙ texts-read 11 c.args.order (length s) count (drop 4 s) clean)
+    ap (λ t. Ok (readable c.args.section.order count t)) c.tail.ensures
+    ∙ sym (ap (counted c.args.section.order s) (sym c.u32.ensures.is ∙ c.in_ok-count.ensures.ok_part) ∙ texts-read 11 c.args.section.order (length s) count (drop 4 s) clean)

@@ -12,11 +12,3 @@ pub returns-in-SimpleperfDexFileInfo : goal.returns-in-SimpleperfDexFileInfo
 returns-in-SimpleperfDexFileInfo c =
     appends_same (ap (λ i. info_bytes (info_of i)) (sym (c.in-Some.is ∙ ap Some c.in-SimpleperfDexFileInfo.is)))
     (counted_put (λ n. n) offsets_of u64 c.put_counted.ensures (λ s t h. h.0) (λ s x t h. h))
-
-pub returns-in-ElfFile : goal.returns-in-ElfFile
-returns-in-ElfFile c =
-    appends_same (ap (λ i. info_bytes (info_of i)) (sym (c.in-Some.is ∙ ap Some c.in-ElfFile.is))) c.put_number.ensures
-
-pub returns-in-KernelModule : goal.returns-in-KernelModule
-returns-in-KernelModule c =
-    appends_same (ap (λ i. info_bytes (info_of i)) (sym (c.in-Some.is ∙ ap Some c.in-KernelModule.is))) c.put_number-in-KernelModule.ensures

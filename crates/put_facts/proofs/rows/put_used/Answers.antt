@@ -1,9 +1,7 @@
-use Rattle.std.proofs.Common.{◌≡◌, length, min, take, Ok, ap, ◌∙◌, arith}
+use Rattle.std.proofs.Common.{take, Ok, ap, ◌∙◌}
 use Rattle.std.specs.Result.{result_from_control_flow}
-use Rattle.std.proofs.lemmas.List.{take_min}
-use Rattle.put.proofs.Chains.{appends_same}
 use Rattle.put_facts.specs.Items.{listed_bytes}
-use Rattle.put_facts.proofs.Telling.{writes_there, writes_absent, writes_fault}
+use Rattle.put_facts.proofs.Telling.{writes_absent, writes_fault}
 use Rattle.put_facts.proofs.rows.put_used.Goals as goal
 
 pub returns-in_err-n : goal.returns-in_err-n
@@ -15,12 +13,3 @@ pub returns-in_default : goal.returns-in_default
 returns-in_default g c =
     writes_absent (λ n. listed_bytes g.L.Line.front (g.L.Line.line c.args.line.now) (take n c.args.rows.now))
     (c.branch-n.ensures ∙ (ap result_from_control_flow c.in_ok-n.is ∙ ap (λ x. Ok x) c.in_default.is))
-
-pub returns : goal.returns
-returns g c =
-    let rows = c.args.rows.now in
-    let n = c.in-Some.n in
-    let k : c.min.result ≡ min n (length rows) = omega (arith, c.min.ensures) in
-    writes_there (λ n. listed_bytes g.L.Line.front (g.L.Line.line c.args.line.now) (take n rows)) n
-    (c.branch-n.ensures ∙ (ap result_from_control_flow c.in_ok-n.is ∙ ap (λ x. Ok x) c.in-Some.is))
-    (appends_same (ap (listed_bytes g.L.Line.front (g.L.Line.line c.args.line.now)) (ap (λ m. take m rows) k ∙ take_min n rows)) c.put_listed.ensures)

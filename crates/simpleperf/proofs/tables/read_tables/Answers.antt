@@ -6,6 +6,6 @@ use Rattle.simpleperf.proofs.tables.read_tables.Goals as goal
 
 pub returns : goal.returns
 returns c =
-    let item = sized_file c.args.order (length c.args.section.now) in
-    let some = shorter c.args.order (length c.args.section.now) in
-    sym (run-read item some c.args.section.now (sym c.in_ok-check_files.ensures))
+    let item = sized_file c.args.section.order (length c.args.section.bytes.now) in
+    let some = shorter c.args.section.order (length c.args.section.bytes.now) in
+    sym (run-read item some c.args.section.bytes.now (sym c.in_ok-check_files.ensures))

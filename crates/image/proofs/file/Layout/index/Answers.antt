@@ -1,5 +1,5 @@
 use Rattle.std.proofs.Common.{sym, arith}
-use Rattle.image.proofs.Tables.{section_few, tabling_none, tabling_room, tabling_unset, tabling_put, tabling_broken, tabling_done}
+use Rattle.image.proofs.Tables.{tabling_none, tabling_room, tabling_unset, tabling_put, tabling_broken}
 use Rattle.image.proofs.file.Layout.index.Goals as goal
 use Rattle.image.proofs.file.Layout.index.Goals.{then-is_set+in-Some, else-is_set}
 
@@ -18,10 +18,6 @@ pub returns-in_default : goal.returns-in_default
 returns-in_default c =
     tabling_broken c.loop-n.invariant c.loop-n-test.true (sym c.if-is_set.ensures) (sym c.in_default.ensures)
 
-pub put-requires : goal.put-requires
-put-requires c =
-    (c.loop-n.invariant.full, omega (arith, c.args.self.now.whole.1, section_few c.args.self.now.order c.args.self.now.image.now c.loop-n.place c.in-Some.section.now (sym c.in-Some.ensures)))
-
 pub overflow_add-place : goal.overflow_add-place
 overflow_add-place c = omega (arith, c.requires.1, c.args.self.now.whole.1, tabling_room c.loop-n.invariant c.loop-n-test.true (sym c.if-is_set.ensures))
 
@@ -31,6 +27,3 @@ loop-n-preserved c =
       | then-is_set+in-Some w ↦ rw (w.index-is, w.place-is) (tabling_put c.loop-n.invariant c.loop-n-test.true (sym w.if-is_set.ensures) (sym w.in-Some.ensures) w.put.ensures)
       | else-is_set w ↦ rw (w.index-is, w.place-is) (tabling_unset c.loop-n.invariant c.loop-n-test.true (sym w.if-is_set.ensures))
     ]
-
-pub returns : goal.returns
-returns c = tabling_done c.loop-n.invariant (omega arith)

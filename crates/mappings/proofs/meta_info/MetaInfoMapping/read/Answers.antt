@@ -14,17 +14,17 @@ use Rattle.mappings.proofs.meta_info.MetaInfoMapping.read.Goals as goal
 
 pub loop-row-init : goal.loop-row-init
 loop-row-init c =
-    let s = c.args.section.now in
+    let s = c.args.section.bytes.now in
     ([], c.start-fill.ensures.holds, ap (paired pair_row) (sym (pieces_here s 0 (omega arith))) ∙ joined_none (paired pair_row (pieces_from s 0)), omega arith, search rules)
 
 pub loop-row-smaller : goal.loop-row-smaller
 loop-row-smaller c =
-    let told = pair_told c.args.section.now c.loop-row.at c.in-Some.row (sym c.in_ok-row.ensures ∙ ap Ok c.in-Some.is) in
+    let told = pair_told c.args.section.bytes.now c.loop-row.at c.in-Some.row (sym c.in_ok-row.ensures ∙ ap Ok c.in-Some.is) in
     omega (arith, told.further, told.inside)
 
 pub loop-row-preserved : goal.loop-row-preserved
 loop-row-preserved c =
-    let s = c.args.section.now in
+    let s = c.args.section.bytes.now in
     let so_far = c.loop-row.invariant.0 in
     let row = c.in-Some.row in
     let told = pair_told s c.loop-row.at row (sym c.in_ok-row.ensures ∙ ap Ok c.in-Some.is) in (
@@ -37,7 +37,7 @@ loop-row-preserved c =
 
 pub returns-in_err-row-clause-made : goal.returns-in_err-row-clause-made
 returns-in_err-row-clause-made c =
-    let s = c.args.section.now in
+    let s = c.args.section.bytes.now in
     let e = c.in_err-row.field-0.0 in
     let p = err_from_is_err_and c.from_residual.result c.from_residual.ensures.1 in
     fault_made texts (key_part s) (paired pair_row (pieces 0 s)) _ c.from_residual.result e
@@ -45,11 +45,11 @@ returns-in_err-row-clause-made c =
     (p.1 ∙ ap Err p.2)
 
 pub returns-in_err-row-clause-tied : goal.returns-in_err-row-clause-tied
-returns-in_err-row-clause-tied c = info_tied c.args.section.now
+returns-in_err-row-clause-tied c = info_tied c.args.section.bytes.now
 
 pub returns-clause-made : goal.returns-clause-made
 returns-clause-made c =
-    let s = c.args.section.now in
+    let s = c.args.section.bytes.now in
     let so_far = c.loop-row.invariant.0 in
     let fill = c.loop-row.fill in
     let kind : key_part fill.kind.section.now ≡ key_part s = ap (λ kind. key_part kind.section.now) (c.loop-row.invariant.4.0 ∙ c.start-fill.ensures.same_kind) in
@@ -61,4 +61,4 @@ returns-clause-made c =
     search rules)
 
 pub returns-clause-tied : goal.returns-clause-tied
-returns-clause-tied c = info_tied c.args.section.now
+returns-clause-tied c = info_tied c.args.section.bytes.now

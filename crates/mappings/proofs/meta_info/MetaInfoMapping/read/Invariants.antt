@@ -12,9 +12,9 @@ abbrev pub invariant-loop-row : goal.invariant-loop-row
 invariant-loop-row l =
     (so_far : List Row)
     × Filled texts (λ kind. key_part kind.section.now) so_far l.fill
-    × (paired pair_row (pieces 0 l.section) ≡ joined so_far (paired pair_row (pieces_from l.section l.at)))
-    × (l.at ≤ length l.section + 1)
+    × (paired pair_row (pieces 0 l.section.bytes.now) ≡ joined so_far (paired pair_row (pieces_from l.section.bytes.now l.at)))
+    × (l.at ≤ length l.section.bytes.now + 1)
     × IsSameFill l.fill l.initial.fill
 
 abbrev pub decreases-loop-row : goal.decreases-loop-row
-decreases-loop-row l = length l.section + 1 - l.at
+decreases-loop-row l = length l.section.bytes.now + 1 - l.at

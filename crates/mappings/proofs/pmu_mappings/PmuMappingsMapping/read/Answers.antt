@@ -11,60 +11,60 @@ use Rattle.mappings.proofs.PmuTied.{names_tied}
 use Rattle.mappings.proofs.pmu_mappings.PmuMappingsMapping.read.Goals as goal
 use Rattle.mappings.proofs.pmu_mappings.PmuMappingsMapping.read.Goals.{in-Some-row, in_default-row}
 
-pub loop-k-preserved : goal.loop-k-preserved
-loop-k-preserved c =
-    let o = c.args.order in
-    let total = length c.args.section.now in
-    let so_far = c.loop-k.invariant.0 in
+pub loop-preserved : goal.loop-preserved
+loop-preserved c =
+    let o = c.args.section.order in
+    let total = length c.args.section.bytes.now in
+    let so_far = c.loop.invariant.0 in
     let i = c.in_ok-item.item in
-    let left : ℕ = c.in-Some.count - c.loop-k._k in
+    let left : ℕ = c.in-Some.count - c.loop.counter in
     let is = sym c.in_ok-item.ensures in
-    let less : left - 1 ≡ c.in-Some.count - (c.loop-k._k + 1) = omega arith in
-    let short = item_shorter name_row o _ c.loop-k.rest.now _ is in
+    let less : left - 1 ≡ c.in-Some.count - (c.loop.counter + 1) = omega arith in
+    let short = item_shorter name_row o _ c.loop.rest.now _ is in
     let within : length i.rest.now ≤ total = omega arith in
     let all =
-    c.loop-k.invariant.2
-    ∙ ap (joined so_far) (items-next name_row o total left c.loop-k.rest.now _ (omega arith) is ∙ ap (λ k. given_before i.row (items_in name_row o total k i.rest.now)) less)
-    ∙ given-next so_far i.row (items_in name_row o total (c.in-Some.count - (c.loop-k._k + 1)) i.rest.now) in
-    let fill = c.loop-k.fill in
+    c.loop.invariant.2
+    ∙ ap (joined so_far) (items-next name_row o total left c.loop.rest.now _ (omega arith) is ∙ ap (λ k. given_before i.row (items_in name_row o total k i.rest.now)) less)
+    ∙ given-next so_far i.row (items_in name_row o total (c.in-Some.count - (c.loop.counter + 1)) i.rest.now) in
+    let fill = c.loop.fill in
     let start = c.start-fill.result in
     -- what the item gives is in the table, if it gives something
     let given : Filled numbers (λ _. key_of) (so_far ++ option_to_list i.row) c.match-item.fill × IsSameFill c.match-item.fill start =
     elim c.match-item.branch [
       | in-Some-row w ↦
           subst (λ f. Filled numbers (λ _. key_of) (so_far ++ option_to_list i.row) f × IsSameFill f start) (sym w.fill-is) (
-            subst (λ g. Filled numbers (λ _. key_of) (so_far ++ option_to_list g) w.add.new.self) (sym w.in-Some-row.is) (w.add.ensures.added so_far c.loop-k.invariant.1),
+            subst (λ g. Filled numbers (λ _. key_of) (so_far ++ option_to_list g) w.add.new.self) (sym w.in-Some-row.is) (w.add.ensures.added so_far c.loop.invariant.1),
             search rules,
           )
       | in_default-row w ↦
           subst (λ f. Filled numbers (λ _. key_of) (so_far ++ option_to_list i.row) f × IsSameFill f start) (sym w.fill-is) (
-            subst (λ xs. Filled numbers (λ _. key_of) xs fill) (sym (ap (λ g. so_far ++ option_to_list g) w.in_default-row.is ∙ append-nil so_far)) c.loop-k.invariant.1,
-            c.loop-k.invariant.4,
+            subst (λ xs. Filled numbers (λ _. key_of) xs fill) (sym (ap (λ g. so_far ++ option_to_list g) w.in_default-row.is ∙ append-nil so_far)) c.loop.invariant.1,
+            c.loop.invariant.4,
           )
     ] in
     (so_far ++ option_to_list i.row, given.0, all, within, given.1)
 
 pub returns-in_err-item-clause-made : goal.returns-in_err-item-clause-made
 returns-in_err-item-clause-made c =
-    let o = c.args.order in
-    let s = c.args.section.now in
+    let o = c.args.section.order in
+    let s = c.args.section.bytes.now in
     let e = c.in_err-item.field-0.0 in
     let p = err_from_is_err_and c.from_residual.result c.from_residual.ensures.1 in
     fault_made numbers key_of (items name_row o s) _ c.from_residual.result e
-    (c.loop-k.invariant.2 ∙ ap (joined c.loop-k.invariant.0) (items-next name_row o (length s) _ c.loop-k.rest.now _ (omega arith) (sym c.in_err-item.ensures)))
+    (c.loop.invariant.2 ∙ ap (joined c.loop.invariant.0) (items-next name_row o (length s) _ c.loop.rest.now _ (omega arith) (sym c.in_err-item.ensures)))
     (p.1 ∙ ap Err p.2)
 
 pub returns-in_err-item-clause-tied : goal.returns-in_err-item-clause-tied
-returns-in_err-item-clause-tied c = names_tied c.args.section.now c.args.order
+returns-in_err-item-clause-tied c = names_tied c.args.section.bytes.now c.args.section.order
 
 pub returns-clause-made : goal.returns-clause-made
 returns-clause-made c =
-    let o = c.args.order in
-    let s = c.args.section.now in
-    let so_far = c.loop-k.invariant.0 in
+    let o = c.args.section.order in
+    let s = c.args.section.bytes.now in
+    let so_far = c.loop.invariant.0 in
     table_made numbers key_of (items name_row o s) _ so_far c.finish.result
-    (c.loop-k.invariant.2 ∙ ap (joined so_far) (items-none name_row o (length s) _ c.loop-k.rest.now (omega arith)) ∙ ap Ok (append-nil so_far))
-    (let done = c.finish.ensures.holds (tabled numbers key_of so_far) c.loop-k.invariant.1 in search rules)
+    (c.loop.invariant.2 ∙ ap (joined so_far) (items-none name_row o (length s) _ c.loop.rest.now (omega arith)) ∙ ap Ok (append-nil so_far))
+    (let done = c.finish.ensures.holds (tabled numbers key_of so_far) c.loop.invariant.1 in search rules)
 
 pub returns-clause-tied : goal.returns-clause-tied
-returns-clause-tied c = names_tied c.args.section.now c.args.order
+returns-clause-tied c = names_tied c.args.section.bytes.now c.args.section.order

@@ -7,10 +7,10 @@ use Rattle.mappings.proofs.Joins.{joined}
 use Rattle.mappings.proofs.pmu_mappings.PmuMappingsMapping.read.Given as goal
 
 -- the rows so far are in the table, and the section's are these and then those of what is left
-abbrev pub invariant-loop-k : goal.invariant-loop-k
-invariant-loop-k l =
+abbrev pub invariant-loop : goal.invariant-loop
+invariant-loop l =
     (so_far : List Row)
     × Filled numbers (λ _. key_of) so_far l.fill
-    × (items name_row l.order l.section ≡ joined so_far (items_in name_row l.order (length l.section) (l.count - l._k) l.rest))
-    × (length l.rest ≤ length l.section)
+    × (items name_row l.section.order l.section.bytes.now ≡ joined so_far (items_in name_row l.section.order (length l.section.bytes.now) (l.count - l.counter) l.rest))
+    × (length l.rest ≤ length l.section.bytes.now)
     × IsSameFill l.fill l.initial.fill

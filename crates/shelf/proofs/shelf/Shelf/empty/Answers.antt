@@ -1,7 +1,6 @@
-use Rattle.std.proofs.Common.{◌≡◌, ℕ, ◌*◌, ◌≤◌, length, replicate, vec_len, None, sym, refl, ap, ◌∙◌, subst, true, false, ◌&&◌, leb, arith, rules}
+use Rattle.std.proofs.Common.{◌≡◌, ℕ, ◌*◌, ◌≤◌, length, replicate, vec_len, None, sym, refl, ap, ◌∙◌, subst, ◌&&◌, leb, arith, rules}
 use Rattle.std.proofs.lemmas.Bool.{and_parts, leb-true}
 use Rattle.std.proofs.lemmas.List.{length-replicate, with_items_is}
-use Rattle.shelf.specs.Rows.{FitsStrip}
 use Rattle.shelf.specs.Strips.{contents_of}
 use Rattle.shelf.specs.Calls.{strips_in}
 use Rattle.shelf.proofs.Openings.{all_free, emptied, strips_fit}

@@ -1,18 +1,22 @@
-use Rattle.std.proofs.Common.{get_or, None, sym, arith}
-use Rattle.std.proofs.lemmas.List.{get_or-take, length-take-le}
-use Rattle.shelf.proofs.Places.{on_strip, group_at}
+use Rattle.std.proofs.Common.{◌<◌, None, sym, ap, ◌∙◌, subst, arith}
+use Rattle.std.proofs.lemmas.List.{get_or_past, get_or-take, length-take-le}
+use Rattle.shelf.specs.Rows.{Row}
+use Rattle.shelf.specs.Contents.{blank}
+use Rattle.shelf.specs.Stands.{GroupAt}
+use Rattle.shelf.proofs.Places.{rows_length, group_at}
 use Rattle.shelf.proofs.shelf.Shelf.group_at.Goals as goal
 
-pub offset_bounds-groups-i : goal.offset_bounds-groups-i
-offset_bounds-groups-i c = omega (arith, on_strip c.self.inside _ c.self.view_is c.args.i c.requires, c.self.invariant.few)
-
-pub bounds-groups-i : goal.bounds-groups-i
-bounds-groups-i c =
+-- past the last place there is no group
+pub returns-in_err-get : goal.returns-in_err-get
+returns-in_err-get c =
     let s = c.self.inside in
-    omega (arith, on_strip s _ c.self.view_is c.args.i c.requires, length-take-le s.strips s.groups (omega (arith, c.self.invariant.few, c.self.invariant.places)))
+    let past = c.in_err-get.ensures.lookup.3 in
+    subst (GroupAt c.args.self.now c.args.i) (sym c.from_residual.ensures)
+    (ap (λ (r : Row). r.number) (get_or_past c.args.self.now.rows c.args.i (blank 0) (omega (arith, past, rows_length s _ c.self.view_is, length-take-le s.strips s.groups (omega (arith, c.self.invariant.few, c.self.invariant.places))))))
 
 pub returns : goal.returns
 returns c =
     let s = c.self.inside in
-    let l = on_strip s _ c.self.view_is c.args.i c.requires in
-    group_at s _ c.self.view_is c.args.i _ c.self.invariant l (sym (get_or-take s.strips s.groups c.args.i None l))
+    let here = c.in_ok-get.ensures.lookup.3 in
+    let l : c.args.i < s.strips = omega (arith, here.0, length-take-le s.strips s.groups (omega (arith, c.self.invariant.few, c.self.invariant.places))) in
+    group_at s _ c.self.view_is c.args.i _ c.self.invariant l (sym (here.1 None ∙ get_or-take s.strips s.groups c.args.i None l))

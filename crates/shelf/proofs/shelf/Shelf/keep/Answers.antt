@@ -1,5 +1,5 @@
 use Rattle.std.proofs.Common.{◌≡◌, ℕ, ◌+◌, ◌-◌, length, replicate, ap, ◌∙◌, arith}
-use Rattle.shelf.specs.Contents.{Contents, put, handed_out}
+use Rattle.shelf.specs.Contents.{Contents, put}
 use Rattle.shelf.specs.Strips.{next_number}
 use Rattle.shelf.proofs.Places.{next_is}
 use Rattle.shelf.proofs.Fits.{fresh_row}

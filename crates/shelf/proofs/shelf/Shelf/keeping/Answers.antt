@@ -1,4 +1,4 @@
-use Rattle.std.proofs.Common.{◌≡◌, sym, ap, ◌∙◌, subst, arith}
+use Rattle.std.proofs.Common.{sym, ◌∙◌, subst}
 use Rattle.shelf.specs.Contents.{blank, row_in}
 use Rattle.shelf.specs.Calls.{first_with, has_head}
 use Rattle.shelf.specs.Stands.{FindsGroup}
@@ -10,9 +10,6 @@ pub returns-in_err-i : goal.returns-in_err-i
 returns-in_err-i c =
     let p = has_head c.args.head.now in
     subst (FindsGroup c.args.self.now (first_with p c.args.self.now.rows)) (sym c.from_residual.ensures) (sym c.place_keeping.ensures ∙ c.in_err-i.was)
-
-pub group_at-requires : goal.group_at-requires
-group_at-requires c = (found_at (has_head c.args.head.now) c.args.self.now.rows (blank 0) c.in_ok-i.i (sym c.place_keeping.ensures ∙ c.in_ok-i.was)).0
 
 pub returns-in_err-group : goal.returns-in_err-group
 returns-in_err-group c =

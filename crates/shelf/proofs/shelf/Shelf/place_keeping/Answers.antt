@@ -1,14 +1,10 @@
-use Rattle.std.proofs.Common.{◌≡◌, ◌<◌, true, false, length, sym, rules, tests, arith}
-use Rattle.std.proofs.lemmas.Iterator.{serves_from_Range, first_from_Range}
+use Rattle.std.proofs.Common.{◌≡◌, true, false, sym, rules, tests}
+use Rattle.std.proofs.lemmas.Iterator.{first_from_Range}
 use Rattle.shelf.specs.Contents.{row_in, blank}
 use Rattle.shelf.specs.Calls.{has_head}
 use Rattle.shelf.proofs.Firsts.{first_in}
 use Rattle.shelf.proofs.Places.{rows_length}
 use Rattle.shelf.proofs.shelf.Shelf.place_keeping.Goals as goal
-
-pub find-requires-clause-callable : goal.find-requires-clause-callable
-find-requires-clause-callable c =
-    serves_from_Range (λ x q k. search (rules, tests)) (λ x low high. let l : x < length c.args.self.now.rows = omega (arith, rows_length c.self.inside _ c.self.view_is) in search (rules, l))
 
 pub returns : goal.returns
 returns c =

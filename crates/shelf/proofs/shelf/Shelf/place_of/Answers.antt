@@ -1,19 +1,13 @@
-use Rattle.std.proofs.Common.{◌≡◌, true, false, sym, ap, ◌∙◌, subst, arith}
-use Rattle.std.proofs.lemmas.Bool.{eqb-true}
+use Rattle.std.proofs.Common.{sym, ◌∙◌, subst}
 use Rattle.shelf.specs.Calls.{place_of}
 use Rattle.shelf.specs.Stands.{FindsGroup}
-use Rattle.shelf.proofs.Places.{place_on, numbered_at, rows_length, not_vacant}
+use Rattle.shelf.proofs.Places.{place_on, not_vacant}
 use Rattle.shelf.proofs.shelf.Shelf.place_of.Goals as goal
 
 pub returns-in_err-i : goal.returns-in_err-i
 returns-in_err-i c =
     subst (FindsGroup c.args.self.now (place_of c.args.self.now c.args.number)) (sym c.from_residual.ensures)
     (sym (place_on c.self.inside _ c.self.view_is c.args.number c.self.invariant) ∙ sym c.numbered.ensures ∙ c.in_err-i.was)
-
-pub group_at-requires : goal.group_at-requires
-group_at-requires c =
-    let s = c.self.inside in
-    omega (arith, (numbered_at s _ c.self.view_is c.args.number c.in_ok-i.i c.self.invariant (sym c.numbered.ensures ∙ c.in_ok-i.was)).0, rows_length s _ c.self.view_is)
 
 pub returns-in_err-group : goal.returns-in_err-group
 returns-in_err-group c =

@@ -1,4 +1,4 @@
-use Rattle.std.proofs.Common.{◌≡◌, ℕ, ◌≤◌, List, length, take, Ok, Result, sym, ap, ◌∙◌, arith}
+use Rattle.std.proofs.Common.{◌≡◌, ℕ, List, length, take, Ok, Result, sym, ap, ◌∙◌, arith}
 use Rattle.wire.specs.declared.refusal.Fault.{Fault}
 use Rattle.facts.specs.Head.{head_of}
 use Rattle.shelf.specs.Calls.{head_for, file_answer, file_after}
