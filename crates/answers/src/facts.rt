@@ -7,51 +7,53 @@ use std::alloc::AllocError;
 
 impl Told for NrCpus {
     fn write(self, out: &mut String) -> Result<(), AllocError> {
-        let available = self.nr_cpus_available;
-        let online = self.nr_cpus_online;
-        write!(out, "numbers {available} {online}")
+        write!(
+            out,
+            "numbers {} {}",
+            self.nr_cpus_available, self.nr_cpus_online
+        )
     }
 }
 
 impl Told for TotalMem {
     fn write(self, out: &mut String) -> Result<(), AllocError> {
-        let kilobytes = self.kilobytes;
-        write!(out, "numbers {kilobytes}")
+        write!(out, "numbers {}", self.kilobytes)
     }
 }
 
 impl Told for SampleTimeRange {
     fn write(self, out: &mut String) -> Result<(), AllocError> {
-        let first = self.first_sample_time;
-        let last = self.last_sample_time;
-        write!(out, "numbers {first} {last}")
+        write!(
+            out,
+            "numbers {} {}",
+            self.first_sample_time, self.last_sample_time
+        )
     }
 }
 
 impl Told for ClockFrequency {
     fn write(self, out: &mut String) -> Result<(), AllocError> {
-        let ns = self.ns_per_tick;
-        write!(out, "numbers {ns}")
+        write!(out, "numbers {}", self.ns_per_tick)
     }
 }
 
 impl Told for CompressionInfo {
     fn write(self, out: &mut String) -> Result<(), AllocError> {
-        let version = self.version;
-        let kind = self.type_;
-        let level = self.level;
-        let ratio = self.ratio;
-        let mmap = self.mmap_len;
-        write!(out, "numbers {version} {kind} {level} {ratio} {mmap}")
+        write!(
+            out,
+            "numbers {} {} {} {} {}",
+            self.version, self.type_, self.level, self.ratio, self.mmap_len
+        )
     }
 }
 
 impl Told for ClockData {
     fn write(self, out: &mut String) -> Result<(), AllocError> {
-        let clock = self.clockid;
-        let wall = self.wall_clock_ns;
-        let time = self.clockid_time_ns;
-        write!(out, "numbers {clock} {wall} {time}")
+        write!(
+            out,
+            "numbers {} {} {}",
+            self.clockid, self.wall_clock_ns, self.clockid_time_ns
+        )
     }
 }
 

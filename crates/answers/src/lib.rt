@@ -29,7 +29,9 @@ use table::row::Row;
 use texts::write_shown;
 use told::write_answer;
 
-// No question asks for more rows.
+// No question asks for more rows (docs/ASK.md).
+// Kept: desk and head_cases have a limit of as many rows, each its own: a desk's is that of docs/SHELF.md, and the test's is how
+// far its lines go. Either can change alone.
 pub const MOST_ROWS: u32 = 65_536;
 
 // Rows for every question, made once and lent to one after the other.
@@ -45,6 +47,7 @@ fn write_table<T: Table>(out: &mut String, table: T, rows: &mut [Row]) -> Result
 }
 
 fn write_line(out: &mut String, line: &Line, rows: &mut [Row]) -> Result<(), AllocError> {
+    // Kept: a match by question. The answers are of many types, so a table of closures would hold the calls that the arms make.
     match line.question {
         Question::Hostname => write_answer(out, hostname(&line.store(Feature::HOSTNAME))),
         Question::OsRelease => write_answer(out, os_release(&line.store(Feature::OSRELEASE))),

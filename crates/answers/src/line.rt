@@ -8,7 +8,6 @@ use section_store::SectionStore;
 use std::alloc::{AllocError, Global};
 use std::num::ParseIntError;
 use wire::order::ByteOrder;
-use wire::refusal::NO_FEATURE;
 
 #[derive(Drop)]
 pub struct Line {
@@ -68,10 +67,8 @@ fn section_of(heap: Global, word: &str) -> Result<Option<Vec<u8>>, LineError> {
         return Ok(None);
     }
     let digits = word.strip_prefix("x").ok_or(LineError::Bad)?;
-    match decode(heap, digits.as_bytes())? {
-        Some(bytes) => Ok(Some(bytes)),
-        None => Err(LineError::Bad),
-    }
+    let bytes = decode(heap, digits.as_bytes())?.ok_or(LineError::Bad)?;
+    Ok(Some(bytes))
 }
 
 impl Line {
@@ -93,25 +90,21 @@ impl Line {
     }
 
     // The mode of a question for a key.
+    // Kept: `of_misc` takes a misc, of 16 bits, and 65,536 may stand here, one more than those hold.
     pub(crate) fn cpu_mode(&self) -> CpuMode {
         CpuMode::from(self.number % 8)
     }
 
     // The section's bytes; none where it is absent.
     pub(crate) fn bytes(&self) -> &[u8] {
-        match &self.section {
-            Some(bytes) => bytes.as_slice(),
-            None => &[],
-        }
+        self.section.as_deref().unwrap_or(&[])
     }
 
-    // The section, as that of a feature; or a store with none, since no feature has the number `NO_FEATURE`.
+    // The section, as that of a feature; or a store with none.
     pub(crate) fn store(&self, feature: Feature) -> SectionStore<'_> {
-        let number = if self.section.is_some() {
-            feature.0
-        } else {
-            NO_FEATURE
-        };
-        SectionStore::new(self.order, number, self.bytes())
+        match &self.section {
+            Some(bytes) => SectionStore::new(self.order, feature.0, bytes),
+            None => SectionStore::absent(self.order),
+        }
     }
 }

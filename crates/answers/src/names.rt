@@ -1,5 +1,5 @@
 // The names of keys.
-use crate::told::Told;
+use crate::told::{Told, write_hex};
 use dso_key::dso_key::DsoKey;
 use std::alloc::AllocError;
 
@@ -9,13 +9,8 @@ pub(crate) fn write_key(
     key: DsoKey<'_>,
     between: &str,
 ) -> Result<(), AllocError> {
-    let kind = key.kind();
-    write!(out, "{kind}{between}x")?;
-    // Kept: `Hex` shows its bytes through a reference, over and over, and this iterator can be run once and not copied.
-    for byte in key.name() {
-        write!(out, "{byte:02x}")?;
-    }
-    Ok(())
+    write!(out, "{}{between}x", key.kind())?;
+    write_hex(out, key.name())
 }
 
 impl Told for DsoKey<'_> {

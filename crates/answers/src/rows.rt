@@ -12,6 +12,9 @@ use table::row::Row;
 use wire::refusal::Refusal;
 
 // A table, by how its rows are read and how one of them is written.
+// Kept: perf_info and mappings_cases have such tables too. What the three share is which call reads the rows and which gives an
+// entry, a line each; all else is what is printed: a write into a text here, a text of its own there, a Display. A trait for all
+// three would be a crate of its own with an entry type for each table, longer than what it saves.
 pub trait Table: Copy {
     // How many rows are used, if the table is there.
     fn read(self, rows: &mut [Row]) -> Result<Option<usize>, Refusal>;
@@ -31,9 +34,7 @@ impl Table for PmuTable<'_> {
         let Some(entry) = pmu_entry(&self.0, row) else {
             return Ok(());
         };
-        let number = entry.number;
-        let name = Hex(entry.name);
-        write!(out, " {number}:x{name}")
+        write!(out, " {}:x{}", entry.number, Hex(entry.name))
     }
 }
 
@@ -49,9 +50,7 @@ impl Table for MetaTable<'_> {
         let Some(entry) = meta_entry(&self.0, row) else {
             return Ok(());
         };
-        let key = Hex(entry.key);
-        let value = Hex(entry.value);
-        write!(out, " x{key}:x{value}")
+        write!(out, " x{}:x{}", Hex(entry.key), Hex(entry.value))
     }
 }
 
@@ -73,9 +72,7 @@ impl Table for BuildTable<'_> {
         };
         write!(out, " ")?;
         write_key(out, key, ":")?;
-        let path = Hex(builds.path(row));
-        let id = Hex(builds.id(row));
-        write!(out, ":x{path}:x{id}")
+        write!(out, ":x{}:x{}", Hex(builds.path(row)), Hex(builds.id(row)))
     }
 }
 
@@ -95,8 +92,7 @@ pub struct TableRows<'r, T> {
 
 impl<T: Table> Told for TableRows<'_, T> {
     fn write(self, out: &mut String) -> Result<(), AllocError> {
-        let used = self.rows.len();
-        write!(out, "rows {used}")?;
+        write!(out, "rows {}", self.rows.len())?;
         write_rows(out, self.table, self.rows)
     }
 }
@@ -107,11 +103,8 @@ pub(crate) fn used_rows<T: Table>(
     table: T,
     rows: &[Row],
 ) -> Result<Option<TableRows<'_, T>>, Refusal> {
-    match used? {
-        None => Ok(None),
-        Some(used) => Ok(Some(TableRows {
-            table,
-            rows: &rows[..used.min(rows.len())],
-        })),
-    }
+    Ok(used?.map(|used| TableRows {
+        table,
+        rows: &rows[..used.min(rows.len())],
+    }))
 }

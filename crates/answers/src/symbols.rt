@@ -29,21 +29,17 @@ fn write_info(
             write_offsets(out, dex.dex_file_offset)
         }
         Some(SimpleperfTypeSpecificInfo::ElfFile(elf)) => {
-            let at = elf.file_offset_of_min_vaddr;
-            write!(out, "elf={at}")
+            write!(out, "elf={}", elf.file_offset_of_min_vaddr)
         }
         Some(SimpleperfTypeSpecificInfo::KernelModule(module)) => {
-            let at = module.memory_offset_of_min_vaddr;
-            write!(out, "module={at}")
+            write!(out, "module={}", module.memory_offset_of_min_vaddr)
         }
     }
 }
 
 fn write_symbol(out: &mut String, symbol: SimpleperfSymbol<'_>) -> Result<(), AllocError> {
-    let vaddr = symbol.vaddr;
-    let len = symbol.len;
     let name = Hex(symbol.name.as_bytes());
-    write!(out, "{vaddr},{len},x{name}")
+    write!(out, "{},{},x{name}", symbol.vaddr, symbol.len)
 }
 
 fn write_symbols(out: &mut String, mut symbols: SymbolList<'_>) -> Result<(), AllocError> {
@@ -61,8 +57,7 @@ fn write_symbols(out: &mut String, mut symbols: SymbolList<'_>) -> Result<(), Al
 fn write_file(out: &mut String, file: SimpleperfFileRecord<'_>) -> Result<(), AllocError> {
     let path = Hex(file.path.as_bytes());
     let file_type = u32::from(file.file_type);
-    let lowest = file.min_vaddr;
-    write!(out, " x{path}:{file_type}:{lowest}:")?;
+    write!(out, " x{path}:{file_type}:{}:", file.min_vaddr)?;
     write_info(out, file.type_specific_msg)?;
     write!(out, ":")?;
     write_symbols(out, file.symbol)
@@ -70,8 +65,7 @@ fn write_file(out: &mut String, file: SimpleperfFileRecord<'_>) -> Result<(), Al
 
 impl Told for SymbolTables<'_> {
     fn write(self, out: &mut String) -> Result<(), AllocError> {
-        let count = self.count();
-        write!(out, "records {count}")?;
+        write!(out, "records {}", self.count())?;
         for file in self {
             write_file(out, file)?;
         }

@@ -1,5 +1,5 @@
 // Answers that are texts.
-use crate::told::Told;
+use crate::told::{Told, write_hex};
 use hexadecimal::Hex;
 use perf_data::string_list::StringList;
 use std::alloc::AllocError;
@@ -7,18 +7,15 @@ use text::shown::Shown;
 
 impl Told for &str {
     fn write(self, out: &mut String) -> Result<(), AllocError> {
-        let bytes = Hex(self.as_bytes());
-        write!(out, "text x{bytes}")
+        write!(out, "text x{}", Hex(self.as_bytes()))
     }
 }
 
 impl Told for StringList<'_> {
     fn write(self, out: &mut String) -> Result<(), AllocError> {
-        let count = self.count();
-        write!(out, "texts {count}")?;
+        write!(out, "texts {}", self.count())?;
         for text in self {
-            let bytes = Hex(text.as_bytes());
-            write!(out, " x{bytes}")?;
+            write!(out, " x{}", Hex(text.as_bytes()))?;
         }
         Ok(())
     }
@@ -27,9 +24,5 @@ impl Told for StringList<'_> {
 // Any bytes, as they are shown.
 pub(crate) fn write_shown(out: &mut String, bytes: &[u8]) -> Result<(), AllocError> {
     write!(out, "text x")?;
-    // Kept: for the reason at the name of a key (names.rt).
-    for byte in Shown::new(bytes) {
-        write!(out, "{byte:02x}")?;
-    }
-    Ok(())
+    write_hex(out, Shown::new(bytes))
 }

@@ -22,13 +22,13 @@ const SIZE_AT: usize = 6;
 
 pub(crate) const ID_AT: usize = 12;
 
-pub(crate) const PATH_AT: usize = 36;
+pub const PATH_AT: usize = 36;
 
 // The longest id, and where its length stands behind it.
-const LONGEST_ID: usize = 20;
+pub const LONGEST_ID: usize = 20;
 
 // The flag in a misc that the length is written there.
-const LENGTH_WRITTEN: u16 = 0x8000;
+pub const LENGTH_WRITTEN: u16 = 0x8000;
 
 // The longest id, less all trailing groups of four zero bytes: the length was not written down once.
 fn less_zeros(bytes: &[u8]) -> &[u8]

@@ -5,7 +5,7 @@
 //   absent ORDER ROWS x: the same of a store that has no such section
 #![tactic(auto)]
 
-use anyhow::anyhow;
+use anyhow::{Context, anyhow};
 use build_ids::builds::Builds;
 use build_ids::perf_file::build_ids;
 use dso_key::cpu_mode::CpuMode;
@@ -18,8 +18,9 @@ use perf_data::features::Feature;
 use section_store::SectionStore;
 use std::io::{BufRead, BufReader};
 use table::row::Row;
+use table_cases::caller::DIRTY;
 use wire::order::ByteOrder;
-use wire::refusal::NO_FEATURE;
+use wire::refusal::Refusal;
 
 fn print_key(rt: &HostRuntime, misc: u16, path: &[u8]) -> anyhow::Result<()> {
     let mode = CpuMode::of_misc(misc);
@@ -27,25 +28,34 @@ fn print_key(rt: &HostRuntime, misc: u16, path: &[u8]) -> anyhow::Result<()> {
         rt.println("none")?;
         return Ok(());
     };
-    let least = u32::from(least);
-    let mut room = [0u8; 512];
-    let Ok(Some(len)) = name(path, misc, &mut room) else {
-        return Err(anyhow!("a name has 512 bytes at most"));
-    };
-    let text = Hex(room.get(0..len).unwrap_or(b""));
-    println!(rt; "{} least {least} name x{text}", key.kind())?;
+    let name: Vec<u8> = key.name().collect(rt.alloc())?;
+    println!(rt;
+        "{} least {} name x{}",
+        key.kind(),
+        u32::from(least),
+        Hex(&name)
+    )?;
+    Ok(())
+}
+
+// A count, the word for there being none, or the refusal.
+fn print_count(
+    rt: &HostRuntime,
+    counted: Result<Option<usize>, Refusal>,
+    none: &str,
+) -> anyhow::Result<()> {
+    match counted {
+        Ok(Some(n)) => print!(rt; "{n}")?,
+        Ok(None) => print!(rt; "{none}")?,
+        Err(refusal) => print!(rt; "{refusal}")?,
+    }
     Ok(())
 }
 
 fn print_name(rt: &HostRuntime, misc: u16, room: usize, path: &[u8]) -> anyhow::Result<()> {
     let mut out = vec![in rt.alloc(); 0xAAu8; room]?;
-    match name(path, misc, out.as_mut_slice()) {
-        Ok(Some(len)) => print!(rt; "{len}")?,
-        Ok(None) => print!(rt; "none")?,
-        Err(refusal) => print!(rt; "{refusal}")?,
-    }
-    let bytes = Hex(out.as_slice());
-    println!(rt; " x{bytes}")?;
+    print_count(rt, name(path, misc, &mut out), "none")?;
+    println!(rt; " x{}", Hex(&out))?;
     Ok(())
 }
 
@@ -54,28 +64,20 @@ fn print_row(rt: &HostRuntime, builds: &Builds<'_>, row: &Row) -> anyhow::Result
         Some(key) => print!(rt; " {}", key.kind())?,
         None => print!(rt; " none")?,
     }
-    let mode = row.number;
-    let path = Hex(builds.path(row));
-    let id = Hex(builds.id(row));
-    print!(rt; " {mode} x{path} x{id}")?;
+    print!(rt;
+        " {} x{} x{}",
+        row.number,
+        Hex(builds.path(row)),
+        Hex(builds.id(row))
+    )?;
     Ok(())
 }
 
 fn print_section(rt: &HostRuntime, store: SectionStore<'_>, room: usize) -> anyhow::Result<()> {
-    let stale = Row {
-        number: 9,
-        ..Row::BLANK
-    };
-    let mut rows = vec![in rt.alloc(); stale; room]?;
-    let mut used = 0;
-    match build_ids(&store, rows.as_mut_slice()) {
-        Ok(Some(n)) => {
-            used = n;
-            print!(rt; "{n}")?;
-        }
-        Ok(None) => print!(rt; "absent")?,
-        Err(refusal) => print!(rt; "{refusal}")?,
-    }
+    let mut rows = vec![in rt.alloc(); DIRTY; room]?;
+    let counted = build_ids(&store, &mut rows);
+    print_count(rt, counted, "absent")?;
+    let used = counted.ok().flatten().unwrap_or(0);
     let builds = Builds {
         section: store.section(Feature::BUILD_ID.0).unwrap_or(b""),
     };
@@ -92,12 +94,10 @@ fn print_section(rt: &HostRuntime, store: SectionStore<'_>, room: usize) -> anyh
 }
 
 fn print_line(rt: &HostRuntime, line: &str) -> anyhow::Result<()> {
-    let Some((words, text)) = line.split_once(" x") else {
-        return Err(anyhow!("a line ends in x and hexadecimal"));
-    };
-    let Some(bytes) = decode(rt.alloc(), text.as_bytes())? else {
-        return Err(anyhow!("a line has no whole hexadecimal"));
-    };
+    let (words, text) = line
+        .split_once(" x")
+        .context("a line ends in x and hexadecimal")?;
+    let bytes = decode(rt.alloc(), text.as_bytes())?.context("a line has no whole hexadecimal")?;
     let mut words = words.split(' ');
     let (what, first, second) = (words.next(), words.next(), words.next());
     // Kept: this match is the parser itself; an enum of the kinds of lines would be matched once more, with the same arms.
@@ -107,14 +107,13 @@ fn print_line(rt: &HostRuntime, line: &str) -> anyhow::Result<()> {
             print_name(rt, misc.parse::<u16>()?, room.parse::<usize>()?, &bytes)
         }
         (Some(what), Some(order), Some(room)) => {
+            // any word but `big` is little-endian
             let order = order.parse().unwrap_or(ByteOrder::Little);
-            // a store of no feature has no section
-            let feature = if what == "section" {
-                Feature::BUILD_ID.0
+            let store = if what == "section" {
+                SectionStore::new(order, Feature::BUILD_ID.0, &bytes)
             } else {
-                NO_FEATURE
+                SectionStore::absent(order)
             };
-            let store = SectionStore::new(order, feature, &bytes);
             print_section(rt, store, room.parse::<usize>()?)
         }
         _ => Err(anyhow!("a line is a key, a name or a section")),

@@ -53,6 +53,8 @@ impl Reply<'_, '_> {
 }
 
 // The bytes of a file; of one that is longer than an image, one byte more than an image has.
+// Kept: perf_head and perf_info take their input so too, which is one chain of std's calls; the crate that all three could have
+// it from would be one of its own, since the library of images, which all three lean on, reads no input and has no heap.
 fn read_image(rt: &HostRuntime, path: &str) -> io::Result<Vec<u8>> {
     let mut image = Vec::new(rt.alloc());
     fs::open(rt, path)?
@@ -61,14 +63,27 @@ fn read_image(rt: &HostRuntime, path: &str) -> io::Result<Vec<u8>> {
     Ok(image)
 }
 
-// The answer to a filing of an image's bytes.
-// Kept: `map_or_else(Reply::Refused, Reply::Filed)` was tried here, and its like in `reply_to`: the check gives no proof of a
-// call that is handed a variant of a type with lifetimes which the variant's own value does not name.
-fn filed<'desk, 'line>(desk: &mut Desk, filing: Filing<'_>, image: &[u8]) -> Reply<'desk, 'line> {
-    match desk.file(filing, image) {
-        Ok(group) => Reply::Filed(group),
+// What a call answers; a refusal is a reply too.
+fn told<'desk, 'line>(answer: Result<Reply<'desk, 'line>, Refusal>) -> Reply<'desk, 'line> {
+    match answer {
+        Ok(reply) => reply,
         Err(refusal) => Reply::Refused(refusal),
     }
+}
+
+// The answer to a filing of an image's bytes.
+fn filed<'desk, 'line>(desk: &mut Desk, filing: Filing<'_>, image: &[u8]) -> Reply<'desk, 'line> {
+    told(desk.file(filing, image).map(|group| Reply::Filed(group)))
+}
+
+// The answer to a request for a head. No closure makes this reply as `map` makes those of other calls: it borrows the desk, and
+// would have to say so for both lifetimes of the reply.
+fn shown<'desk, 'line>(
+    desk: &'desk mut Desk,
+    group: u64,
+    room: Option<usize>,
+) -> Result<Reply<'desk, 'line>, Refusal> {
+    Ok(Reply::Shown(desk.show(group, room)?))
 }
 
 fn file<'desk, 'line>(
@@ -90,7 +105,6 @@ fn file<'desk, 'line>(
 }
 
 // Such a desk is not opened again.
-// Kept: the matches, for the reason at `filed`.
 fn reply_to<'desk, 'line>(
     rt: &HostRuntime,
     desk: &'desk mut Desk,
@@ -99,18 +113,9 @@ fn reply_to<'desk, 'line>(
     Ok(match request {
         Request::Open(_) => Reply::NoRequest(BadLine),
         Request::File(filing) => file(rt, desk, filing)?,
-        Request::Release(group) => match desk.release(group) {
-            Ok(()) => Reply::Released(group),
-            Err(refusal) => Reply::Refused(refusal),
-        },
-        Request::Count(group) => match desk.count(group) {
-            Ok(filings) => Reply::Counted(filings),
-            Err(refusal) => Reply::Refused(refusal),
-        },
-        Request::Show(group, room) => match desk.show(group, room) {
-            Ok(head) => Reply::Shown(head),
-            Err(refusal) => Reply::Refused(refusal),
-        },
+        Request::Release(group) => told(desk.release(group).map(|()| Reply::Released(group))),
+        Request::Count(group) => told(desk.count(group).map(|filings| Reply::Counted(filings))),
+        Request::Show(group, room) => told(shown(desk, group, room)),
     })
 }
 

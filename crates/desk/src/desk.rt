@@ -45,13 +45,14 @@ fn lent<T>(memory: &mut [T], wanted: usize) -> &mut [T] {
 }
 
 impl Desk {
-    // There is a desk in every case, also with the refusal of the opening.
+    // Kept: a desk beside the answer: a shelf is there in every case, also of an opening that is refused (docs/SHELF.md).
     pub fn open(heap: Global, opening: Opening) -> Result<(Desk, Result<(), Refusal>), AllocError> {
         let bytes = vec![in heap; 0u8; opening.bytes.min(MOST_BYTES)]?;
         let rows = vec![in heap; Row::BLANK; MOST_ROWS]?;
         let work = vec![in heap; 0u8; MOST_WORK]?;
         let shown = vec![in heap; 0u8; MOST_WORK]?;
-        // A first number above those of 32 bits is out of bounds, as 0 is.
+        // Kept: 0 for a number above those of 32 bits: the shelf has to be opened in every case, and it is the shelf that judges
+        // its first number, where 0 is out of bounds as that number is (docs/SHELF.md).
         let first = u32::try_from(opening.first).unwrap_or(0);
         let (shelf, answer) = Shelf::open(opening.strip, first, bytes);
         let desk = Desk {

@@ -1,8 +1,10 @@
 // A request, taken from a line.
-ghost use Rattle.std.specs.Prelude.{◌≡◌, IfOk, MatchOption};
-ghost use Rattle.desk.specs.Requests.{IsNumber, first_of, others_of};
+ghost use Rattle.std.specs.Prelude.{◌≡◌, IfOk, MatchOption, Ok};
+ghost use Rattle.std.specs.Str.Parse.{without_leading_plus};
+ghost use Rattle.desk.specs.Requests.{first_of, others_of};
 
 use std::fmt;
+use std::num::ParseIntError;
 use std::str::FromStr;
 
 // Numbers are decimal. What a shelf has to judge, as a group that is none, is passed on to it.
@@ -51,23 +53,19 @@ impl fmt::Display for BadLine {
     }
 }
 
-// No filing has more rows: they are made once.
+// No filing has more rows (docs/SHELF.md): they are made once.
+// Kept: answers has a limit as great, but it is of another page, a question's rows (docs/ASK.md).
 pub const MOST_ROWS: usize = 65_536;
 
 // A number of decimal digits alone.
-fn number(word: &str) -> Result<u64, BadLine>
-    ensures { IfOk result (IsNumber word.now) }
+fn number<N: FromStr<Err = ParseIntError>>(word: &str) -> Result<N, BadLine>
+    ensures value { IfOk result (λ n. N.from_str_gives word.now (Ok n)) }
+    ensures digits { IfOk result (λ _. without_leading_plus word.now ≡ word.now) }
 {
     if word.starts_with('+') {
         return Err(BadLine);
     }
-    word.parse::<u64>().map_err(|_| BadLine)
-}
-
-fn size(word: &str) -> Result<usize, BadLine>
-    ensures { IfOk result (IsNumber word.now) }
-{
-    Ok(number(word)? as usize)
+    word.parse::<N>().map_err(|_| BadLine)
 }
 
 // Two words, with a space between them.
@@ -99,9 +97,9 @@ impl FromStr for Opening {
         let (strip, words) = pair(words)?;
         let (first, bytes) = pair(words)?;
         Ok(Opening {
-            strip: size(strip)?,
+            strip: number(strip)?,
             first: number(first)?,
-            bytes: size(bytes)?,
+            bytes: number(bytes)?,
         })
     }
 }
@@ -115,11 +113,11 @@ impl FromStr for Lent {
 
     fn from_str(words: &str) -> Result<Lent, BadLine> {
         let (rows, work) = pair(words)?;
-        let rows = size(rows)?;
+        let rows = number(rows)?;
         if rows > MOST_ROWS {
             return Err(BadLine);
         }
-        let work = size(work)?;
+        let work = number(work)?;
         Ok(Lent { rows, work })
     }
 }
@@ -157,7 +155,7 @@ impl<'a> TryFrom<&'a str> for Request<'a> {
             "count" => Ok(Request::Count(number(words)?)),
             "show" => {
                 let (group, room) = first_word(words);
-                Ok(Request::Show(number(group)?, room.map(size).transpose()?))
+                Ok(Request::Show(number(group)?, room.map(number::<usize>).transpose()?))
             }
             _ => Err(BadLine),
         }

@@ -92,8 +92,11 @@ impl Ord for DsoKey<'_> {
     ghost matches_eq = { λ x y. refl };
 
     fn cmp(&self, other: &Self) -> Ordering {
-        self.rank()
-            .cmp(&other.rank())
-            .then(self.compare_texts(*other))
+        // Kept: tried `then_with`: the check infers nothing of its closure's result, so that the texts of keys of one kind
+        // stayed open. And `then` would compare the texts also where the kinds differ.
+        match self.rank().cmp(&other.rank()) {
+            Ordering::Equal => self.compare_texts(*other),
+            unequal => unequal,
+        }
     }
 }

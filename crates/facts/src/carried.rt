@@ -25,6 +25,8 @@ pub enum Carried {
 
 impl Carried {
     // All of them, by rising numbers.
+    // Kept: a function and no constant: its clause says once which features they are, and in which order. Of a constant the proof
+    // of each caller would compute that.
     pub fn all() -> [Carried; 15]
         ensures { result ≡ carried }
     {
@@ -47,7 +49,8 @@ impl Carried {
         ]
     }
 
-    // The feature's number.
+    // The feature's number, of the two bytes that a head has for it.
+    // Kept: a method: `u16::from(feature)` would say less plainly which number it is.
     pub fn number(self) -> u16
         ensures { result ≡ number_of self }
     {

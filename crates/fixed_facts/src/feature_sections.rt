@@ -1,13 +1,11 @@
 // Facts of a fixed length: numbers, one after the other.
 ghost use Rattle.std.specs.Prelude.{◌≡◌, ℕ, List, Result as Answer};
-ghost use Rattle.std.specs.Option.{option_map};
-ghost use Rattle.wire.specs.Numbers.{number};
 ghost use Rattle.wire.specs.declared.order.ByteOrder.{ByteOrder as Order};
 ghost use Rattle.wire.specs.declared.refusal.Fault.{Fault};
 ghost use Rattle.fixed_facts.specs.Fixed.{field, whole64, nr_cpus, sample_time_range, compression_info, clock_data, total_mem, clock_frequency, parsed, parsed_as};
 
 use perf_data::features::Feature;
-use wire::order::{ByteOrder, tail};
+use wire::order::{ByteOrder, Number, tail};
 use wire::refusal::Refusal;
 
 // A fact of a fixed length: the feature whose section it is, how many bytes it has, and what they are read as.
@@ -39,38 +37,10 @@ pub trait FixedFact: Sized {
     }
 }
 
-// A number that a field is.
-trait Number: Sized {
-    ghost width: { ℕ };
-
-    ghost value: { Self → ℕ };
-
-    // The number that some bytes begin with.
-    fn read(order: ByteOrder, bytes: &[u8]) -> Option<Self>
-        ensures { option_map value result ≡ number order width bytes.now };
-}
-
-impl Number for u32 {
-    ghost width = { 4 };
-
-    ghost value = { λ n. n };
-
-    fn read(order: ByteOrder, bytes: &[u8]) -> Option<u32> {
-        order.u32(bytes)
-    }
-}
-
-impl Number for u64 {
-    ghost width = { 8 };
-
-    ghost value = { λ n. n };
-
-    fn read(order: ByteOrder, bytes: &[u8]) -> Option<u64> {
-        order.u64(bytes)
-    }
-}
-
 // The bytes of a feature's section, and the order that its numbers have.
+// Kept: an order and any bytes, and no `Section`, since `parse` asks of no caller that the bytes are few; and the feature as a
+// field. The fact as a type parameter, with `PhantomData`, was tried: the methods below then need the very impl whose
+// `from_fields` calls them, and the borrow checker does not cover such a circle.
 #[derive(Clone, Copy)]
 pub struct Fields<'a> {
     pub feature: u32,
@@ -81,7 +51,7 @@ pub struct Fields<'a> {
 impl Fields<'_> {
     // The number that stands at an offset.
     fn at<N: Number>(&self, at: u32) -> Result<N, Refusal>
-        ensures { parsed_as N.value result ≡ field self.now.feature self.now.order N.width self.now.bytes.now «at» }
+        ensures { parsed_as N.value result ≡ field self.now.feature self.now.order N.WIDTH self.now.bytes.now «at» }
     {
         let number = N::read(self.order, tail(self.bytes, at as usize));
         number.ok_or(Refusal::CutShort {

@@ -6,6 +6,7 @@ ghost use Rattle.fixed_facts.specs.Fixed.{of_first, nr_cpus, total_mem, sample_t
 use crate::feature_sections::{
     ClockData, ClockFrequency, CompressionInfo, FixedFact, NrCpus, SampleTimeRange, TotalMem,
 };
+use image::ask::section_of;
 use image::store::Store;
 use perf_data::features::Feature;
 use wire::refusal::Refusal;
@@ -14,11 +15,11 @@ use wire::refusal::Refusal;
 fn fixed_fact<'a, F: FixedFact, S: Store<'a>>(store: &S) -> Result<Option<F>, Refusal>
     ensures { answered (λ x. x) result ≡ question (of_first F.STRUCT_SIZE F.read) (S.endian store.now) ((S.map store.now).at F.FEATURE) }
 {
-    let Some(section) = store.section(F::FEATURE) else {
+    let Some(section) = section_of(store, F::FEATURE) else {
         return Ok(None);
     };
-    let bytes = section.get(..F::STRUCT_SIZE).unwrap_or(section);
-    Ok(Some(F::parse(store.order(), bytes)?))
+    let bytes = section.bytes.get(..F::STRUCT_SIZE).unwrap_or(section.bytes);
+    Ok(Some(F::parse(section.order, bytes)?))
 }
 
 pub fn nr_cpus<'a, S: Store<'a>>(store: &S) -> Result<Option<NrCpus>, Refusal>

@@ -1,5 +1,5 @@
 -- A head is counted, and then written; and it speaks for its store.
-use Rattle.std.proofs.Common.{◌≡◌, ℕ, ◌+◌, ◌<◌, ◌≤◌, min, Bool, true, false, cond, ltb, List, ◌++◌, length, take, drop, is_some, IfOk, Some, None, Ok, Err, Option, Result, sym, refl, ap, ◌∙◌, subst, arith, Bor}
+use Rattle.std.proofs.Common.{◌≡◌, ℕ, ◌+◌, ◌<◌, ◌≤◌, min, Bool, true, false, cond, ltb, List, ◌++◌, length, take, drop, is_some, Some, None, Ok, Err, Option, Result, sym, refl, ap, ◌∙◌, subst, arith, Bor}
 use Rattle.std.proofs.lemmas.List.{take_at}
 use Rattle.std.proofs.lemmas.Bool.{le-ltb, lt-ltb, ltb-false, cond-false}
 use Rattle.wire.specs.Faults.{section_fault, state_fault}
@@ -75,10 +75,6 @@ fitting room (Ok x) len h = by (ltb (min room 16777216) (length x)) refl h
     by : (b : Bool) → ltb (min room 16777216) (length x) ≡ b → Ok len ≡ length_of (cond b (Err (state_fault 32 256)) (Ok x)) → Fitting room (Ok x) len
     by true q e = not_ok (state_fault 32 256) len (sym e)
     by false q e = record { head = x; is = refl; fits = cond-false _ _ _ q; short = omega (arith, ltb-false (min room 16777216) (length x) q); room = omega (arith, ltb-false (min room 16777216) (length x) q); long = cc }
-
-pub within : (room : ℕ) (x : Result (List ℕ) Fault) (r : Result ℕ Refusal) → outcome r ≡ length_of (fitted room x) → IfOk r (λ n. n ≤ room)
-within room x (Err e) h = tt
-within room x (Ok len) h = let f = fitting room x len h in omega (arith, f.long, f.room)
 
 pub spoken : HeadsSpeak → (n room : ℕ) (o : ByteOrder) (m : Features) (r : Result ℕ Refusal) (out p : List ℕ) → outcome r ≡ length_of (fitted room (head_of n o m.at)) → p ≡ ahead (fitted room (head_of n o m.at)) out → Spoken n o m r p
 spoken laws n room o m (Err e) out p h a = tt

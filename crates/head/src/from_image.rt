@@ -34,9 +34,11 @@ pub fn write_image_head(
     ensures rows { rows.new ≡ blanks (length rows.old) }
     ensures room { IfOk result (λ n. n ≤ length out.old) }
 {
-    let opened = open_within(image, most);
-    if opened.is_err() {
-        blank_all(rows);
+    match open_within(image, most) {
+        Ok(store) => write_head(&store, rows, out),
+        Err(refusal) => {
+            blank_all(rows);
+            Err(refusal)
+        }
     }
-    write_head(&opened?, rows, out)
 }

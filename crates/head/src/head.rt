@@ -1,6 +1,6 @@
 // The head of a store, written to the front of a buffer.
 ghost use Rattle.std.specs.Prelude.{◌≡◌, ◌+◌, ◌*◌, ◌^◌, ◌<◌, ◌≤◌, length, IfOk, OnOk};
-ghost use Rattle.facts.specs.Head.{answer as answer_of, entry, entries, head_of, fitted, length_of, ahead, outcome};
+ghost use Rattle.facts.specs.Head.{answer as answer_of, carried, entry, entries, head_of, fitted, length_of, ahead, outcome};
 ghost use Rattle.facts.specs.Laws.{Spoken};
 ghost use Rattle.table.specs.Rows.{blanks};
 ghost use Rattle.head.specs.Wrote.{Wrote};
@@ -15,9 +15,13 @@ use table::row::{Row, blank_all};
 use wire::refusal::Refusal;
 
 // `PRH`, and the version 1.
-const MARK: [u8; 5] = [0x50, 0x52, 0x48, 0x01, 0x00];
+// Kept: the reader (image/head.rt) has these as a mark and a number, since it tells an image's kind by the mark alone. A change
+// here or there alone is refused: what is written is proved to be read again.
+const MARK: &[u8; 5] = b"PRH\x01\0";
 
 // What stands before a fact: its feature's number, and its length.
+// Kept: the reader's `SECTION_AT` (image/head.rt) is this number too. Each stands beside the code that puts or takes these six
+// bytes, and the same proof ties them.
 const FRONT: usize = 6;
 
 // Kept: the store, the rows and the writer go from function to function as parameters, as `put_fact` takes them. A struct of the
@@ -51,18 +55,17 @@ fn write_entry<'a, S: Store<'a>>(
     Ok(())
 }
 
-// The entries of some features, one after the other.
+// The entries of the features that a head carries, one after the other.
 fn write_entries<'a, S: Store<'a>>(
     store: &S,
-    features: &[Carried],
     rows: &mut [Row],
     w: &mut Writer<'_>,
 ) -> Result<(), Refusal>
-    requires few { length features.now ≤ 15 }
-    requires low { w.old.at ≤ 16 }
-    ensures { Wrote (entries (answer_of (length rows.old) (S.endian store.now) (S.map store.now).at) features.now) w.old result w.new }
+    requires { w.old.at ≤ 16 }
+    ensures { Wrote (entries (answer_of (length rows.old) (S.endian store.now) (S.map store.now).at) carried) w.old result w.new }
 {
-    for feature in features {
+    let features = Carried::all();
+    for feature in &features {
         write_entry(store, *feature, rows, w)?;
     }
     Ok(())
@@ -81,8 +84,8 @@ fn write_whole<'a, S: Store<'a>>(
     if store.section(Feature::SIMPLEPERF_FILE2.0).is_some() {
         return Err(Refusal::SecondFormatPresent);
     }
-    w.put(&MARK);
-    write_entries(store, &Carried::all(), rows, w)
+    w.put(MARK);
+    write_entries(store, rows, w)
 }
 
 // The head is counted first: where it is refused or does not fit, `out` stays as it was.

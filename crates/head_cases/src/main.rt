@@ -15,6 +15,8 @@ use table::row::Row;
 use table_cases::caller::DIRTY;
 
 // The rows and the bytes that are made once and lent for every line.
+// Kept: the rows that answers and desk have as their limits are as many, but theirs are docs/ASK.md's and docs/SHELF.md's, which
+// can change alone; these are only how far this test goes.
 const MOST_ROWS: usize = 65_536;
 
 const MOST_ROOM: usize = 70_000;
@@ -83,8 +85,8 @@ fn print_line(
     let (lent, given) = front
         .split_once(' ')
         .context("a line has no bytes of room")?;
-    let lent = lent.parse::<u32>()? as usize;
-    let given = given.parse::<u32>()? as usize;
+    let lent = lent.parse::<usize>()?;
+    let given = given.parse::<usize>()?;
     let (Some(rows), Some(room)) = (rows.get_mut(..lent), room.get_mut(..given)) else {
         return Err(anyhow!("a line has more rows or room than there are"));
     };

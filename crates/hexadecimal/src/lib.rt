@@ -8,6 +8,7 @@ use std::alloc::{AllocError, Global};
 use std::fmt;
 
 // What a digit counts.
+// Kept: by hand. `to_digit` takes capitals too, which are no digits here.
 fn digit(c: u8) -> Option<u8>
     ensures { result ≡ digit_of c }
 {

@@ -65,7 +65,8 @@ impl<'a> Layout<'a> {
         ensures few { result ≤ 256 }
     {
         // Kept: `filter` and `count` would say both clauses of `is_set` again at the closure, and the count's contract speaks of
-        // the filter's steps: from that the number of set features was not proved.
+        // the filter's steps: from that the number of set features was not proved. `count_ones` of the four words would count
+        // them by word, where a feature's table entry is found by the numbers set below its own, which this counts by one by one.
         let mut k: usize = 0;
         for n in 0..FEATURES {
             if self.is_set(n) {

@@ -7,11 +7,14 @@ use crate::store::Store;
 use wire::order::ByteOrder;
 
 // How many features there are.
-pub(crate) const FEATURES: usize = 256;
+pub const FEATURES: usize = 256;
 
 #[derive(Clone, Copy)]
 pub struct Indexed<'a> {
     order: ByteOrder,
+    // Kept: bytes, and no `Section`, which would have the order once more in each of the 256 places. So what goes in is short,
+    // and that is forgotten here: a ghost field for it would speak of all places, and each `put` would prove it of all of them
+    // again. `section` below looks at a length instead.
     sections: [Option<&'a [u8]>; FEATURES],
 }
 

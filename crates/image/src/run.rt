@@ -38,6 +38,7 @@ pub(crate) trait Entries {
 }
 
 // The entries of an image from an offset on, and the order of their numbers.
+// Kept: an image and its order, as in `Layout` of file.rt, and no `Section`, which is what a feature has in an image.
 #[derive(Clone, Copy)]
 pub(crate) struct EntryRun<'a> {
     pub(crate) order: ByteOrder,
@@ -55,7 +56,7 @@ impl<'a> EntryRun<'a> {
         let mut index = Indexed::empty(self.order);
         let mut before: Option<u64> = None;
         let mut rest = &self.image[self.from..];
-        while rest.len() > 0 {
+        while !rest.is_empty() {
             let Some(front) = entries.front(before, rest) else {
                 return Err(E::refusal((self.image.len() - rest.len()) as u32));
             };

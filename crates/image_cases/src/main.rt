@@ -2,7 +2,7 @@
 // image's bytes in hexadecimal. Answers each with a line: its byte order and its sections, or the refusal.
 #![tactic(auto)]
 
-use anyhow::anyhow;
+use anyhow::{Context, anyhow};
 use hexadecimal::{Hex, decode};
 use image::ask::section_of;
 use image::file::FileImage;
@@ -19,8 +19,7 @@ fn print_store<'a, S: Store<'a>>(rt: &HostRuntime, store: &S) -> anyhow::Result<
     print!(rt; "{order}")?;
     for number in 0..600u32 {
         if let Some(section) = section_of(store, number) {
-            let bytes = Hex(section.bytes);
-            print!(rt; " {number}:x{bytes}")?;
+            print!(rt; " {number}:x{}", Hex(section.bytes))?;
         }
     }
     println!(rt; "")?;
@@ -38,12 +37,10 @@ fn print_opened<'a, S: Store<'a> + Drop>(
 }
 
 fn print_line(rt: &HostRuntime, line: &str) -> anyhow::Result<()> {
-    let Some((kind, text)) = line.split_once(" x") else {
-        return Err(anyhow!("a line is a kind, a space, x and hexadecimal"));
-    };
-    let Some(image) = decode(rt.alloc(), text.as_bytes())? else {
-        return Err(anyhow!("a line has no whole hexadecimal"));
-    };
+    let (kind, text) = line
+        .split_once(" x")
+        .context("a line is a kind, a space, x and hexadecimal")?;
+    let image = decode(rt.alloc(), text.as_bytes())?.context("a line has no whole hexadecimal")?;
     // Kept: this match is the parser itself, and each word opens a type of its own: an enum of the four words would be matched
     // once more, with these same four arms, since no value stands for the type that an arm opens.
     match kind {

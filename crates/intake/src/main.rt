@@ -3,11 +3,12 @@
 
 use desk::answer::{answer, open};
 use desk::desk::{Desk, USUAL};
-use desk::lines::Lines;
+use desk::lines::{lines, request_of};
 use desk::request::{BadLine, Request};
 use std::io;
 
 // The first line may open the shelf. Where it does not, the shelf is opened as usual, and the line is answered like any other.
+// Kept: a desk beside whether the line was a request. There is a desk in either case, and no third thing to name.
 fn first(rt: &HostRuntime, request: Result<Request<'_>, BadLine>) -> anyhow::Result<(Desk, bool)> {
     if let Ok(Request::Open(opening)) = request {
         return Ok((open(rt, opening)?, true));
@@ -22,17 +23,15 @@ fn print_end(rt: &HostRuntime, requests: u64, held: usize) -> io::Result<()> {
 }
 
 fn serve(rt: &HostRuntime) -> anyhow::Result<()> {
-    let mut lines = Lines::new(rt)?;
-    let Some(request) = lines.next_request()? else {
+    let mut lines = lines(rt)?;
+    let Some(line) = lines.next() else {
         return Ok(print_end(rt, 0, 0)?);
     };
-    let (mut desk, taken) = first(rt, request)?;
+    let (mut desk, taken) = first(rt, request_of(&line?))?;
     let mut requests = u64::from(taken);
-    for _ in 0..u64::MAX {
-        let Some(request) = lines.next_request()? else {
-            break;
-        };
-        if answer(rt, &mut desk, request)? {
+    // Kept: the requests are counted by hand, since they are answered as they come: `count` would have a closure change the desk.
+    for line in lines {
+        if answer(rt, &mut desk, request_of(&line?))? {
             requests = requests.saturating_add(1);
         }
     }

@@ -27,6 +27,7 @@ pub struct MetaEntry<'a> {
 }
 
 // A piece at an offset that is no well-formed text.
+// Kept: that the place is small is asked for. A type for a place would be made at each call and taken apart here.
 fn ill_formed(at: usize) -> Refusal
     requires { at ≤ 16777216 }
     ensures { fault_of result ≡ section_fault 10 129 «at» }
@@ -85,6 +86,8 @@ impl Mapping for MetaInfo {
             section: section.bytes,
         };
         let mut fill = Fill::start(texts, rows);
+        // Kept: an iterator of pairs would have this place as its field, with the same sum at each step, and would give each row
+        // as a `Result`, with a relation beside it that says of both outcomes what comes next.
         let mut at = 0;
         while let Some(row) = read_pair(section, at)? {
             fill.add(row);

@@ -1,4 +1,4 @@
-// PmuMappings::FEATURE, feature 16: the kernel's numbers of performance monitoring units, with their names.
+// PMU_MAPPINGS, feature 16: the kernel's numbers of performance monitoring units, with their names.
 ghost use Rattle.std.specs.Prelude.{◌≡◌, ◌-◌, ◌≤◌, ℕ, length};
 ghost use Rattle.wire.specs.Faults.{fault_of};
 ghost use Rattle.mappings.specs.PmuMappings.{cut, item_at, item_read, name_row, past_text, key_of, pmu_rows, pmu_names};
@@ -33,6 +33,7 @@ pub struct PmuEntry<'a> {
 }
 
 // A number, or a name, that does not end within the section.
+// Kept: that the place is small is asked for, as in meta_info.rt.
 fn cut_short(at: usize) -> Refusal
     requires { at ≤ 16777224 }
     ensures { fault_of result ≡ cut «at» }
@@ -44,7 +45,8 @@ fn cut_short(at: usize) -> Refusal
 }
 
 // What follows a header text, whether it is well formed or not.
-// Kept: an order and bytes, as `read_string` takes them, since the bytes are a part of a section and no section.
+// Kept: an order and bytes, as `read_string` takes them. The one caller has the two at hand, from the section and from what is
+// left of it, and would make a `Section` of them for this call alone.
 fn past_text(order: ByteOrder, s: &[u8]) -> &[u8]
     ensures { result.now ≡ past_text order s.now }
 {
@@ -53,6 +55,8 @@ fn past_text(order: ByteOrder, s: &[u8]) -> &[u8]
 }
 
 // The item that the rest of a section begins with.
+// Kept: the section and what is left of it. A cursor would hold these two, and the place as its method; but `read_string` answers
+// what follows a text, which each step would have to put back into the cursor, and the clause speaks of the two.
 fn read_item<'a>(section: Section<'a>, rest: &'a [u8]) -> Result<Item<'a>, Refusal>
     requires { length rest.now ≤ length section.bytes.now }
     ensures { item_read result ≡ item_at name_row section.entry.order (length section.entry.bytes.now - length rest.now) rest.now }

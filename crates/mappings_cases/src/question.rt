@@ -10,6 +10,9 @@ use std::str::FromStr;
 use table::row::Row;
 use wire::refusal::Refusal;
 
+// Kept: an enum, where answers and perf_info have a trait of three types: a question's word is parsed to one value, which stands for
+// either table. What those two have in common with this one is which call reads the rows and which gives an entry, a line each; all
+// else is what they print, in forms of their own, so a trait for all three would be a crate with an entry type for each table.
 #[derive(Clone, Copy)]
 pub enum Table {
     PmuMappings,

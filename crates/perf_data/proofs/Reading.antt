@@ -1,17 +1,44 @@
 -- Header texts, read one after the other.
-use Rattle.std.proofs.Common.{◌≡◌, ℕ, zero, suc, ◌-◌, ◌<◌, ◌≤◌, Bool, true, false, cond, ltb, List, [], ◌∷◌, length, take, drop, Some, None, Ok, Err, Option, Result, sym, refl, ap, ◌∙◌, arith}
+use Rattle.std.proofs.Common.{◌≡◌, ℕ, zero, suc, ◌-◌, ◌<◌, ◌≤◌, IsErrAnd, Bool, true, false, cond, ltb, List, [], ◌∷◌, length, take, drop, Some, None, Ok, Err, Option, Result, sym, refl, ap, ◌∙◌, arith}
+use Rattle.std.specs.Borrow.{Bor}
+use Rattle.std.specs.Result.{MatchResult, result_ok}
 use Rattle.std.proofs.lemmas.List.{length-drop}
+use Rattle.wire.specs.Faults.{fault_of}
 use Rattle.wire.specs.Numbers.{number}
 use Rattle.wire.specs.declared.order.ByteOrder.{ByteOrder}
 use Rattle.wire.specs.declared.refusal.Fault.{Fault}
+use Rattle.wire.specs.declared.refusal.Refusal.{Refusal}
 use Rattle.text.specs.Pieces.{well_formed}
-use Rattle.text.specs.Strings.{Read, before_nul, text_of_length, header_text}
+use Rattle.text.specs.Strings.{Read, before_nul, text_of_length, header_text, read_of}
 use Rattle.text.specs.declared.strings.TextFault.{TextFault}
 use Rattle.text.specs.declared.strings.TextFault.TheVariants.{PastEnd, IllFormed}
-use Rattle.perf_data.specs.Texts.{text_fault, before, and_more, texts_in, while_read, readable, first_fault}
+use Rattle.perf_data.specs.Texts.{text_fault, before, and_more, texts_in, while_read, readable, first_fault, fault_in}
 
 err_not : {X V E : Type 0} (e : E) (v : V) → ◌≡◌ {A = Result V E} (Err e) (Ok v) → X
 err_not e v h = let z : ◌≡◌ {A = ℕ} 0 1 = cc in absurd (omega arith)
+
+-- what a text is read as, from what the `ok` of its reading is
+pub read_ok : (r : Result (Bor (List ℕ) × Bor (List ℕ)) TextFault) (t : Bor (List ℕ) × Bor (List ℕ)) → Some t ≡ result_ok r → read_of r ≡ Ok (record { text = t.0.now; rest = t.1.now })
+read_ok (Ok u) t h = let e : t ≡ u = cc in ap (λ (v : Bor (List ℕ) × Bor (List ℕ)). Ok (record { text = v.0.now; rest = v.1.now })) (sym e)
+read_ok (Err e) t h = cc
+
+pub read_fault : (r : Result (Bor (List ℕ) × Bor (List ℕ)) TextFault) → None ≡ result_ok r → (e : TextFault) × (read_of r ≡ Err e)
+read_fault (Ok u) h = cc
+read_fault (Err e) h = (e, refl)
+
+-- the same from what `map_err` says of it
+pub matched_ok : (r : Result (Bor (List ℕ) × Bor (List ℕ)) TextFault) (P : Bor (List ℕ) × Bor (List ℕ) → Type 0) (Q : TextFault → Type 0) → MatchResult r P Q → ((e : TextFault) → Q e → ⊥) → (t : Bor (List ℕ) × Bor (List ℕ)) → ((u : Bor (List ℕ) × Bor (List ℕ)) → P u → t ≡ u) → read_of r ≡ Ok (record { text = t.0.now; rest = t.1.now })
+matched_ok (Ok u) P Q h q t p = ap (λ (v : Bor (List ℕ) × Bor (List ℕ)). Ok (record { text = v.0.now; rest = v.1.now })) (sym (p u h))
+matched_ok (Err e) P Q h q t p = absurd (q e h)
+
+pub matched_fault : (r : Result (Bor (List ℕ) × Bor (List ℕ)) TextFault) (P : Bor (List ℕ) × Bor (List ℕ) → Type 0) (Q : TextFault → Type 0) → MatchResult r P Q → ((u : Bor (List ℕ) × Bor (List ℕ)) → P u → ⊥) → (e : TextFault) × (read_of r ≡ Err e) × Q e
+matched_fault (Ok u) P Q h p = absurd (p u h)
+matched_fault (Err e) P Q h p = (e, refl, h)
+
+-- the fault of a refusal that is handed on
+pub handed_on : (r : Result (Unit {0}) Refusal) (e : Refusal) → IsErrAnd r (λ y. y ≡ e) → fault_in r ≡ Some (fault_of e)
+handed_on (Ok v) e h = absurd h
+handed_on (Err y) e h = ap (λ z. Some (fault_of z)) h
 
 -- what follows a text is no longer than what it was read from
 shorter_by : (b c : Bool) (text t : List ℕ) (len : ℕ) (r : Read) → cond b (Err PastEnd) (cond c (Ok (record { text = text; rest = drop len t })) (Err IllFormed)) ≡ Ok r → length r.rest ≤ length t

@@ -6,7 +6,7 @@ ghost use Rattle.std.specs.Iterator.{at_most, YieldsFirstRef};
 
 use crate::features::Feature;
 use image::section::Section;
-use text::strings::read_string;
+use text::strings::{TextFault, read_string};
 use wire::order::{ByteOrder, tail};
 use wire::refusal::Refusal;
 
@@ -29,13 +29,9 @@ impl<'a> Iterator for StringList<'a> {
 
     fn next(&mut self) -> Option<&'a str> {
         self.left = self.left.checked_sub(1)?;
-        match read_string(self.order, self.rest) {
-            Ok((text, rest)) => {
-                self.rest = rest;
-                Some(text)
-            }
-            Err(_) => None,
-        }
+        let (text, rest) = read_string(self.order, self.rest).ok()?;
+        self.rest = rest;
+        Some(text)
     }
 }
 
@@ -45,13 +41,12 @@ fn check_texts(section: Section<'_>, count: u32) -> Result<(), Refusal>
 {
     let mut rest = tail(section.bytes, 4);
     for _ in 0..count {
-        match read_string(section.order, rest) {
-            Ok((_, after)) => rest = after,
-            Err(fault) => {
-                let at = section.bytes.len() - rest.len();
-                return Err(fault.refusal(Feature::CMDLINE.0, at as u32));
-            }
-        }
+        // Kept: a cursor over the section would have this place as its method. It would serve this loop and that over PMUs'
+        // names, and both would put back into it what `read_string` answers as the rest.
+        let at = section.bytes.len() - rest.len();
+        let refused = |fault: TextFault| fault.refusal(Feature::CMDLINE.0, at as u32);
+        let (_, after) = read_string(section.order, rest).map_err(refused)?;
+        rest = after;
     }
     Ok(())
 }

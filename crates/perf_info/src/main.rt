@@ -13,6 +13,7 @@ use fixed_facts::perf_file::{
     clock_data, clock_frequency, compression_info, is_stats, nr_cpus, sample_time_range, total_mem,
 };
 use image::ask::section_of;
+use image::index::FEATURES;
 use image::kinds::Image;
 use image::section::LONGEST;
 use image::store::Store;
@@ -49,6 +50,7 @@ fn print_fact<'a, S: Store<'a>>(
     feature: Feature,
     section: &[u8],
 ) -> io::Result<()> {
+    // Kept: a match by feature. The answers are of many types, so a table of closures would hold the calls that the arms make.
     match feature {
         Feature::BUILD_ID => print_table(rt, store, Builds { section }, section.len()),
         Feature::HOSTNAME => print_answer(rt, hostname(store)),
@@ -86,7 +88,7 @@ fn print_section<'a, S: Store<'a>>(
 }
 
 fn print_store<'a, S: Store<'a>>(rt: &HostRuntime, store: &S) -> io::Result<()> {
-    for number in 0..256u32 {
+    for number in 0..FEATURES as u32 {
         if let Some(section) = section_of(store, number) {
             print_section(rt, store, Feature(number), section.bytes)?;
         }
@@ -110,6 +112,8 @@ fn print_image(rt: &HostRuntime, image: &[u8]) -> io::Result<()> {
 }
 
 fn main(rt: HostRuntime) -> io::Result<()> {
+    // Kept: desk and perf_head take an image so too, by one chain of std's calls; the crate that all three could have it from would
+    // be one of its own, since the library of images, which all three lean on, reads no input and has no heap.
     let mut image = Vec::new(rt.alloc());
     // one byte more, which tells that the input is longer than an image
     rt.stdin().take(LONGEST as u64 + 1).read_to_end(&mut image)?;

@@ -10,13 +10,16 @@ use std::fmt;
 fn is_plain(c: char) -> bool
     ensures { result ≡ is_plain c }
 {
-    match c {
-        '\0'..='\u{1F}' | '\u{7F}'..='\u{9F}' => false,
-        '\u{61C}' | '\u{200E}'..='\u{200F}' | '\u{2028}'..='\u{202E}' | '\u{2066}'..='\u{2069}' =>
-            false,
-        '\\' => false,
-        _ => true,
-    }
+    !matches!(
+        c,
+        '\0'..='\u{1F}'
+            | '\u{7F}'..='\u{9F}'
+            | '\u{61C}'
+            | '\u{200E}'..='\u{200F}'
+            | '\u{2028}'..='\u{202E}'
+            | '\u{2066}'..='\u{2069}'
+            | '\\'
+    )
 }
 
 // The characters of a text, each that is not plain by its number.

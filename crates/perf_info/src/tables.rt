@@ -9,7 +9,6 @@ use mappings::meta_info::{meta_entry, meta_info};
 use mappings::pmu_mappings::{pmu_entry, pmu_mappings};
 use simpleperf::file::SimpleperfFileRecord;
 use simpleperf::questions::symbol_tables;
-use simpleperf::symbol::SymbolList;
 use std::io;
 use std::str::from_utf8;
 use table::row::Row;
@@ -29,6 +28,9 @@ fn rows_for(rt: &HostRuntime, len: usize) -> io::Result<Vec<Row>> {
 }
 
 // A table of a store.
+// Kept: answers and mappings_cases have a table of names and one of entries too. What the three share is which call reads the rows
+// and which gives an entry, a line each; all else is what is printed: a text of its own here, a write into one there, a Display. A
+// trait for all three would be a crate of its own with an entry type for each table, longer than what it saves.
 pub trait Table<'a, S: Store<'a>>: Copy {
     // What its entries are called.
     const ENTRIES: &'static str;
@@ -121,15 +123,10 @@ pub fn print_table<'a, S: Store<'a>, T: Table<'a, S>>(
     Ok(())
 }
 
-// How many symbols there are: a count in 32 bits, which a list of them alone tells.
-fn count_of(symbols: SymbolList<'_>) -> usize {
-    symbols.count()
-}
-
 fn print_file(rt: &HostRuntime, file: SimpleperfFileRecord<'_>) -> io::Result<()> {
     let path = InWords(file.path);
     let file_type = u32::from(file.file_type);
-    let symbols = count_of(file.symbol);
+    let symbols = file.symbol.count();
     println!(rt; "    {path} (type {file_type}, {symbols} symbols)")
 }
 

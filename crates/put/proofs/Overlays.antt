@@ -82,3 +82,11 @@ overlay-place o a x h =
     (λ low. ap (λ (n : ℕ). overlay o n x) (omega arith))
     (λ high. overlay_past o (place a) x (omega arith) ∙ sym (overlay_past o a x (omega arith)))
     (cases_lt a (2 ^ 64))
+
+-- from a place or, where that is past the end, from the end on: nothing is written there
+pub overlay_least_place : (o : List ℕ) (a : ℕ) (x : List ℕ) → overlay o (min a (length o)) x ≡ overlay o a x
+overlay_least_place o a x =
+    ⊎_elim
+    (λ low. ap (λ (n : ℕ). overlay o n x) (omega arith))
+    (λ high. overlay_past o (min a (length o)) x (omega arith) ∙ sym (overlay_past o a x high))
+    (cases_lt a (length o))

@@ -1,6 +1,5 @@
 // A writer, which a buffer is lent to.
 ghost use Rattle.std.specs.Prelude.{◌≡◌, ℕ, ◌^◌, ◌<◌, List, length};
-ghost use Rattle.put.specs.Overlay.{overlay};
 ghost use Rattle.wire.specs.Numbers.{bytes_of};
 ghost use Rattle.wire.specs.declared.order.ByteOrder.TheVariants.{Little};
 
@@ -16,6 +15,8 @@ pub struct Writer<'b> {
 }
 
 // A number whose bytes can be put, the lowest first.
+// Kept: beside wire's `Number`, which reads. An array of its bytes has a length by its type, and a trait's constant cannot be an
+// array's length in a signature, so each type makes its own array here.
 pub trait Number: Copy {
     ghost use Rattle.put.specs.Appends.{Appends};
 
@@ -23,16 +24,6 @@ pub trait Number: Copy {
 
     fn put_to(self, w: &mut Writer<'_>)
         ensures { Appends (bytes self) w.old w.new };
-}
-
-// Writes those of the bytes that fall inside `out` from a place on.
-fn put_over(out: &mut [u8], at: usize, bytes: &[u8])
-    ensures { out.new ≡ overlay out.old «at» bytes.now }
-{
-    if at < out.len() {
-        let n = bytes.len().min(out.len() - at);
-        out[at..at + n].copy_from_slice(&bytes[..n]);
-    }
 }
 
 impl<'b> Writer<'b> {
@@ -65,7 +56,9 @@ impl<'b> Writer<'b> {
     pub fn put(&mut self, bytes: &[u8])
         ensures { Appends bytes.now self.old self.new }
     {
-        put_over(self.out, self.at, bytes);
+        let from = self.at.min(self.out.len());
+        let n = bytes.len().min(self.out.len() - from);
+        self.out[from..from + n].copy_from_slice(&bytes[..n]);
         self.at = self.at.saturating_add(bytes.len());
     }
 

@@ -1,4 +1,3 @@
-mod Firsts
 mod Drained
 mod Telling
 mod Arms

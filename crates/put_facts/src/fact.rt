@@ -6,7 +6,7 @@ ghost use Rattle.facts.specs.Places.{rows_after};
 ghost use Rattle.mappings.specs.Tables.{bytes_in};
 ghost use Rattle.put_facts.specs.Writes.{in_bytes, Writes};
 
-use crate::lines::{Names, Pairs};
+use crate::lines::Names;
 use crate::rows::put_table;
 use crate::told::{Mark, put_answer};
 use build_ids::builds::Builds;
@@ -20,6 +20,7 @@ use perf_data::features::Feature;
 use perf_data::perf_file::{cmdline, feature_string};
 use put::Writer;
 use simpleperf::questions::symbol_tables;
+use table::kind::Texts;
 use table::row::Row;
 use wire::refusal::Refusal;
 
@@ -42,7 +43,9 @@ pub fn put_fact<'a, S: Store<'a>>(
     ensures rows { rows.new ≡ rows_after feature rows.old }
 {
     // Kept: a match by feature. The answers are of eight types, those of three features with rows beside them, so a closure
-    // for each feature would hold the call that its arm makes here, and would be picked by this very match.
+    // for each feature would hold the call that its arm makes here, and would be picked by this very match. The three tables'
+    // arms are alike, but what they call promises in different words (build_ids by what the section's records are, the others by
+    // its entries): a trait over them would have three impls, each with the call, the section and a contract of its own.
     match feature {
         Carried::BuildId => {
             let used = build_ids(store, rows);
@@ -57,7 +60,7 @@ pub fn put_fact<'a, S: Store<'a>>(
         Carried::SimpleperfMetaInfo => {
             let used = meta_info(store, rows);
             let section = section_bytes(store, Carried::SimpleperfMetaInfo);
-            put_table(used, &Pairs { section }, rows, w)
+            put_table(used, &Texts { section }, rows, w)
         }
         Carried::NrCpus => put_answer(nr_cpus(store), w),
         Carried::TotalMem => put_answer(total_mem(store), w),

@@ -8,8 +8,10 @@ ghost use Rattle.table.specs.Rows.{key_part, entry_of};
 ghost use Rattle.table.specs.declared.row.Row.{Row as Rows};
 
 use crate::parts::{put_above, put_ended, put_id, put_len, put_text};
+use build_ids::build_id_event::{LENGTH_WRITTEN, PATH_AT};
 use build_ids::builds::Builds;
 use put::Writer;
+use table::kind::Texts;
 use table::row::Row;
 
 // What the rows of a table stand for.
@@ -48,12 +50,7 @@ impl Line for Names<'_> {
 }
 
 // A key with its value.
-#[derive(Clone, Copy)]
-pub(crate) struct Pairs<'a> {
-    pub section: &'a [u8],
-}
-
-impl Line for Pairs<'_> {
+impl Line for Texts<'_> {
     ghost front = { λ _. [] };
 
     ghost line = { λ s row. pair_bytes (entry_of (key_part s.section.now) s.section.now row) };
@@ -68,12 +65,6 @@ impl Line for Pairs<'_> {
 
 const BUILD_ID_TYPE: u32 = 67;
 
-// The bit of misc that says that the id's length is written down.
-const SIZED_ID: u16 = 0x8000;
-
-// What a build id record has before its path.
-const FRONT: u16 = 36;
-
 const NO_PROCESS: u32 = 0;
 
 impl Line for Builds<'_> {
@@ -86,8 +77,8 @@ impl Line for Builds<'_> {
     fn put_row(&self, row: &Row, w: &mut Writer<'_>) {
         let path = self.path(row);
         w.put_number(BUILD_ID_TYPE);
-        put_above(SIZED_ID, row.number as usize, w);
-        put_above(FRONT, path.len(), w);
+        put_above(LENGTH_WRITTEN, row.number as usize, w);
+        put_above(PATH_AT as u16, path.len(), w);
         w.put_number(NO_PROCESS);
         put_id(self.id(row), w);
         w.put(path);

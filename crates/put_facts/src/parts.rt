@@ -3,6 +3,7 @@ ghost use Rattle.std.specs.Prelude.{◌+◌};
 ghost use Rattle.put.specs.Appends.{Appends};
 ghost use Rattle.facts.specs.Written.{u16, u32, text_bytes, ended, id_bytes};
 
+use build_ids::build_id_event::LONGEST_ID;
 use put::Writer;
 
 // How many numbers there are of a byte, of two, and of four.
@@ -42,17 +43,14 @@ pub(crate) fn put_ended(text: &[u8], w: &mut Writer<'_>)
     w.put(&[0]);
 }
 
-// The bytes that a record keeps for an id.
-const ID_LEN: usize = 20;
-
 // The zeros that stand behind an empty id.
-const ZEROS: [u8; ID_LEN] = [0; ID_LEN];
+const ZEROS: [u8; LONGEST_ID] = [0; LONGEST_ID];
 
 // An id in its 24 bytes: zeros up to the 20th, the id's length, three zeros.
 pub(crate) fn put_id(id: &[u8], w: &mut Writer<'_>)
     ensures { Appends (id_bytes id.now) w.old w.new }
 {
     w.put(id);
-    w.put(&ZEROS[..ID_LEN.saturating_sub(id.len())]);
+    w.put(&ZEROS[..LONGEST_ID.saturating_sub(id.len())]);
     w.put(&[(id.len() % BYTE_NUMBERS) as u8, 0, 0, 0]);
 }

@@ -16,10 +16,8 @@ use wire::refusal::Refusal;
 fn put_rows<L: Line>(line: &L, rows: &[Row], w: &mut Writer<'_>)
     ensures { Appends (flat_map (L.Line.line line.now) rows.now) w.old w.new }
 {
-    let mut rest = rows;
-    while let [row, more @ ..] = rest {
+    for row in rows {
         line.put_row(row, w);
-        rest = more;
     }
 }
 
@@ -43,6 +41,8 @@ fn put_used<L: Line>(
     let Some(n) = used? else {
         return Ok(false);
     };
+    // Kept: `n` is any number here, and where it is above the rows all of them are taken, as by the clause's `take`. A `requires`
+    // would have each of the three tables show again that it uses no more rows than there are.
     put_listed(line, &rows[..n.min(rows.len())], w);
     Ok(true)
 }

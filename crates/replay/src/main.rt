@@ -32,7 +32,7 @@ fn replay_line(rt: &HostRuntime, line: &str, rows: &mut [Row]) -> anyhow::Result
 
 fn replay(rt: &HostRuntime) -> anyhow::Result<()> {
     let mut rows = all_rows(rt.alloc())?;
-    let mut tally = Tally::NONE;
+    let mut tally = Tally::default();
     for line in BufReader::new(rt.alloc(), rt.stdin())?.lines(rt.alloc()) {
         tally = tally.with(replay_line(rt, line?.as_str(), &mut rows)?);
     }

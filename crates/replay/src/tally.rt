@@ -5,7 +5,7 @@ ghost use Rattle.replay.specs.Counted.{counted, more};
 use crate::verdict::Verdict;
 use std::fmt;
 
-#[derive(Clone, Copy)]
+#[derive(Clone, Copy, Default)]
 pub struct Tally {
     pub equal: u64,
     pub too_few_rows: u64,
@@ -21,13 +21,6 @@ fn more(counts: bool, count: u64) -> u64
 }
 
 impl Tally {
-    pub const NONE: Tally = Tally {
-        equal: 0,
-        too_few_rows: 0,
-        too_much_memory: 0,
-        others: 0,
-    };
-
     pub fn with(self, verdict: Verdict) -> Tally
         ensures { result ≡ counted self verdict }
     {

@@ -52,7 +52,8 @@ impl Case<'_> {
     }
 
     // A table's refusal for want of rows; no other question has one.
-    // Kept: a text: to display a `Refusal` into one takes memory, for want of which `judge` would fail, which never does.
+    // Kept: a text, where a `Refusal` could be displayed: that takes memory, for want of which it fails, and the contract of
+    // `judge` says that it always answers.
     fn rows_refusal(self) -> Option<&'static str>
         ensures { IfSome result (λ t. refuses_rows t.now ≡ true) }
     {
@@ -75,6 +76,7 @@ impl Case<'_> {
     fn is_too_few_rows(self) -> bool
         ensures { result ≡ true → refuses_rows self.entry.ours.now ≡ true }
     {
+        // Kept: `is_some_and` was tried, and the proof did not close: which refusal the closure is handed is not known in it.
         match self.rows_refusal() {
             Some(refusal) => self.ours == refusal && self.has_more_rows(),
             None => false,

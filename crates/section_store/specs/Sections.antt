@@ -25,5 +25,9 @@ section_short feature bytes n =
 abbrev pub features_in : ℕ → List ℕ → Features
 features_in feature bytes = record { at = section_of feature bytes; low = section_low feature bytes; short = section_short feature bytes }
 
+-- No number has a section.
+abbrev pub LacksAll : Features → Type 0
+LacksAll f = (n : ℕ) → f.at n ≡ None
+
 abbrev pub features_of : SectionStore → Features
 features_of s = features_in s.feature s.bytes.now

@@ -3,15 +3,14 @@
 
 ghost use Rattle.std.specs.Prelude.{◌≡◌};
 ghost use Rattle.image.specs.Ask.{in_order, answer};
-ghost use Rattle.section_store.specs.Sections.{features_in, features_of, section_of};
+ghost use Rattle.section_store.specs.Sections.{features_in, features_of, LacksAll, section_of};
 
 use image::ask::{Section, section_of};
+use image::index::FEATURES;
 use image::section::LONGEST;
 use image::store::Store;
 use wire::order::ByteOrder;
-
-// The last feature that there is.
-const LAST_FEATURE: u32 = 255;
+use wire::refusal::NO_FEATURE;
 
 #[derive(Clone, Copy)]
 pub struct SectionStore<'a> {
@@ -32,6 +31,19 @@ impl<'a> SectionStore<'a> {
             bytes,
         }
     }
+
+    // A store that lacks every section.
+    // Kept: by a number that no section has, so that one definition is the map of either store.
+    pub fn absent(order: ByteOrder) -> SectionStore<'a>
+        ensures order { result.order ≡ order }
+        ensures sections { LacksAll (features_of result) }
+    {
+        SectionStore {
+            order,
+            feature: NO_FEATURE,
+            bytes: &[],
+        }
+    }
 }
 
 impl<'a> Store<'a> for SectionStore<'a> {
@@ -44,7 +56,7 @@ impl<'a> Store<'a> for SectionStore<'a> {
     }
 
     fn section(&self, number: u32) -> Option<&'a [u8]> {
-        if number > LAST_FEATURE || number != self.feature || self.bytes.len() > LONGEST {
+        if number as usize >= FEATURES || number != self.feature || self.bytes.len() > LONGEST {
             return None;
         }
         Some(self.bytes)

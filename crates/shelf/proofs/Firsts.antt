@@ -1,5 +1,5 @@
 -- The first place whose row passes a test.
-use Rattle.std.proofs.Common.{◌≡◌, ℕ, zero, suc, ◌+◌, ◌<◌, ◌≤◌, Bool, true, false, cond, ltb, List, [], ◌∷◌, length, get_or, Some, None, Option, refl, sym, ap, ◌∙◌, subst, ⊎_elim, add-one, arith}
+use Rattle.std.proofs.Common.{◌≡◌, ℕ, zero, suc, ◌+◌, ◌<◌, Bool, true, false, cond, ltb, List, [], ◌∷◌, length, get_or, Some, None, Option, refl, sym, ap, ◌∙◌, subst, ⊎_elim, add-one, arith}
 use Rattle.std.proofs.lemmas.Bool.{cond-true, cond-false, cases_Bool, lt-ltb, le-ltb, ltb-true, ltb-false}
 use Rattle.std.specs.Option as options
 use Rattle.std.specs.List.{position, position_or_len}
@@ -79,8 +79,3 @@ first_found p (r ∷ rs) d = found_more p r rs d (first_with p rs) (first_found 
 
 pub found_at : {X : Type 0} (p : X → Bool) (rows : List X) (d : X) (i : ℕ) → first_with p rows ≡ Some i → (i < length rows) × (p (get_or rows i d) ≡ true)
 found_at p rows d i e = subst (Found p rows d) e (first_found p rows d)
-
--- what `find` over the places answers
-pub first_in : {X : Type 0} (p : X → Bool) (rows : List X) (d : X) (n : ℕ) (o : Option ℕ) → length rows ≡ n → options.MatchOption o ((k : ℕ) → 0 ≤ k → k < n → p (get_or rows k d) ≡ false) (λ i. (0 ≤ i) × (i < n) × (p (get_or rows i d) ≡ true) × ((k : ℕ) → 0 ≤ k → k < i → p (get_or rows k d) ≡ false)) → first_with p rows ≡ o
-first_in p rows d n None l f = first_none p rows d (λ j q. f j (omega arith) (omega arith))
-first_in p rows d n (Some i) l f = first_here p rows d i (omega (arith, f.1)) (λ j q. f.3 j (omega arith) q) f.2

@@ -1,4 +1,5 @@
 pub mod Firsts
+pub mod Finds
 pub mod Sizes
 pub mod Places
 pub mod Changes

@@ -1,19 +1,19 @@
 -- The rows of a shelf, by place.
-use Rattle.std.proofs.Common.{◌≡◌, ℕ, suc, ◌+◌, ◌*◌, ◌^◌, ◌<◌, ◌≤◌, Bool, true, false, not, eqb, ltb, List, length, get_or, count_by, take, drop, Some, None, Option, vec_items, vec_len, sym, refl, ap, ◌∙◌, subst, ⊎_elim, mul-le-mul_right, suc-mul, arith, rules}
+use Rattle.std.proofs.Common.{◌≡◌, ℕ, suc, ◌+◌, ◌*◌, ◌^◌, ◌<◌, ◌≤◌, Bool, true, not, ltb, List, length, get_or, count_by, take, drop, Some, None, Option, vec_items, vec_len, sym, refl, ap, ◌∙◌, subst, ⊎_elim, mul-le-mul_right, suc-mul, arith, rules}
 use Rattle.std.proofs.lemmas.List.FromFn.{length-map-range_with_len, get_or-map-range_with_len}
 use Rattle.std.proofs.lemmas.List.{get_or-take, length-take, length-take-le, take-take, places}
-use Rattle.std.proofs.lemmas.Bool.{and_parts, ltb-true, cases_eq, cases_lt, cond-true, cond-false, eq-eqb, ne_eqb}
+use Rattle.std.proofs.lemmas.Bool.{and_parts, ltb-true, cases_lt, ne_eqb}
 use Rattle.std.specs.Str.{bytes_eq}
 use Rattle.std.specs.Option.{SomeIff, is_some, is_none}
 use Rattle.shelf.specs.declared.shelf.Group.{Group}
 use Rattle.shelf.specs.declared.shelf.Shelf.TheInside.{Inside}
-use Rattle.shelf.specs.Rows.{Row, row_at, row_of, strip_at, holds, FitsStrip}
+use Rattle.shelf.specs.Rows.{Row, row_at, row_of, strip_at, FitsStrip}
 use Rattle.shelf.specs.Contents.{Contents, row_in, blank}
 use Rattle.shelf.specs.Strips.{contents, Sound, next_number}
-use Rattle.shelf.specs.Stands.{StandsAt, GroupAt}
-use Rattle.shelf.specs.Calls.{first_with, is_numbered, has_head, place_of}
+use Rattle.shelf.specs.Stands.{StandsAt}
+use Rattle.shelf.specs.Calls.{first_with, is_numbered, has_head}
 use Rattle.shelf.specs.Sizes.{held}
-use Rattle.shelf.proofs.Firsts.{first_none, first_same, found_at}
+use Rattle.shelf.proofs.Firsts.{first_same}
 use Rattle.shelf.proofs.Sizes.{count_same}
 
 -- a strip ends where the next begins
@@ -66,14 +66,6 @@ module _ (s : Inside) (c : Contents) (is : contents s ≡ c) where
   first_on t p o same =
       let b = by_place t p o same in first_same t p (take s.strips s.groups) c.rows None (blank 0) b.0 b.1
 
-  numbered_row : (g : ℕ) (b : List ℕ) (slot : Option Group) → (g ≡ 0 → ⊥) → holds g slot ≡ is_numbered g (row_of slot b)
-  numbered_row g b None n = sym (ne_eqb 0 g (λ e. n (sym e)))
-  numbered_row g b (Some x) n = refl
-
-  none_held : (strip : ℕ) (slot : Option Group) → FitsStrip strip slot → holds 0 slot ≡ false
-  none_held strip None f = refl
-  none_held strip (Some x) f = ne_eqb x.number 0 (λ e. omega (arith, f.0))
-
   free_row : (strip : ℕ) (b : List ℕ) (slot : Option Group) → FitsStrip strip slot → is_none slot ≡ is_numbered 0 (row_of slot b)
   free_row strip b None f = refl
   free_row strip b (Some x) f = sym (ne_eqb x.number 0 (λ e. omega (arith, f.0)))
@@ -81,37 +73,6 @@ module _ (s : Inside) (c : Contents) (is : contents s ≡ c) where
   held_row : (strip : ℕ) (b : List ℕ) (slot : Option Group) → FitsStrip strip slot → is_some slot ≡ not (is_numbered 0 (row_of slot b))
   held_row strip b None f = refl
   held_row strip b (Some x) f = ap not (sym (ne_eqb x.number 0 (λ e. omega (arith, f.0))))
-
-  pub place_on : (g : ℕ) → Sound s → first_with (holds g) (take s.strips s.groups) ≡ place_of c g
-  place_on g o = ⊎_elim zeroth other (cases_eq g 0)
-    where
-      zeroth : g ≡ 0 → first_with (holds g) (take s.strips s.groups) ≡ place_of c g
-      zeroth e =
-          first_none (holds g) (take s.strips s.groups) None
-          (λ j l. let k : j < s.strips = omega (arith, length-take-le s.strips s.groups (omega (arith, o.few, o.places))) in ap (holds g) (get_or-take s.strips s.groups j None k) ∙ ap (λ (n : ℕ). holds n (get_or s.groups j None)) e ∙ none_held s.strip (get_or s.groups j None) (o.fits j))
-          ∙ sym (cond-true (eqb g 0) None (first_with (is_numbered g) c.rows) (eq-eqb g 0 e))
-
-      other : (g ≡ 0 → ⊥) → first_with (holds g) (take s.strips s.groups) ≡ place_of c g
-      other n =
-          first_on (holds g) (is_numbered g) o (λ j l. numbered_row g (strip_at s.strip (vec_items s.bytes) j) (get_or s.groups j None) n)
-          ∙ sym (cond-false (eqb g 0) None (first_with (is_numbered g) c.rows) (ne_eqb g 0 n))
-
-  -- the place that it finds is held for the group
-  pub numbered_at : (g i : ℕ) → Sound s → first_with (holds g) (take s.strips s.groups) ≡ Some i → (i < s.strips) × (holds g (get_or s.groups i None) ≡ true)
-  numbered_at g i o e =
-      let f = found_at (holds g) (take s.strips s.groups) None i e in
-      let l : i < s.strips = omega (arith, f.0, length-take-le s.strips s.groups (omega (arith, o.few, o.places))) in
-      (l, ap (holds g) (sym (get_or-take s.strips s.groups i None l)) ∙ f.1)
-
-  -- and so not vacant
-  number_held : (g : ℕ) (b : List ℕ) (slot : Option Group) → FitsStrip s.strip slot → holds g slot ≡ true → 1 ≤ (row_of slot b).number
-  number_held g b None f e = absurd (cc)
-  number_held g b (Some x) f e = f.0
-
-  pub not_vacant : (g i : ℕ) → Sound s → first_with (holds g) (take s.strips s.groups) ≡ Some i → (row_in c i).number ≡ 0 → ⊥
-  not_vacant g i o e z =
-      let at = numbered_at g i o e in
-      omega (arith, number_held g (strip_at s.strip (vec_items s.bytes) i) (get_or s.groups i None) (o.fits i) at.1, ap (λ (r : Row). r.number) (row_on i at.0))
 
   pub free_on : Sound s → first_with is_none (take s.strips s.groups) ≡ first_with (is_numbered 0) c.rows
   free_on o =
@@ -123,7 +84,7 @@ module _ (s : Inside) (c : Contents) (is : contents s ≡ c) where
       count_same (take s.strips s.groups) c.rows b.0 b.1
 
   -- the group of a place stands there
-  stands : (i : ℕ) (g : Group) → Sound s → i < s.strips → get_or s.groups i None ≡ Some g → StandsAt c i g
+  pub stands : (i : ℕ) (g : Group) → Sound s → i < s.strips → get_or s.groups i None ≡ Some g → StandsAt c i g
   stands i g o l e =
       let f : FitsStrip s.strip (Some g) = subst (FitsStrip s.strip) e (o.fits i) in
       let bytes : length (strip_at s.strip (vec_items s.bytes) i) ≡ s.strip = length-strip (i * s.strip) s.strip (vec_items s.bytes) (omega (arith, strip_end i s.strips s.strip l, o.room, s.bytes.ok.0)) in
@@ -147,10 +108,10 @@ module _ (s : Inside) (c : Contents) (is : contents s ≡ c) where
       let bytes : length (strip_at s.strip (vec_items s.bytes) i) ≡ s.strip = length-strip (i * s.strip) s.strip (vec_items s.bytes) (omega (arith, strip_room i o l, s.bytes.ok.0)) in
       omega (arith, ap (λ (r : Row). length r.head) (row_on i (on_strip i l)), head_inside (strip_at s.strip (vec_items s.bytes) i) (get_or s.groups i None), bytes)
 
-  pub group_at : (i : ℕ) (slot : Option Group) → Sound s → i < s.strips → get_or s.groups i None ≡ slot → GroupAt c i slot
-  group_at i None o l e =
+  -- and none stands at a free one
+  pub free_at : (i : ℕ) → i < s.strips → get_or s.groups i None ≡ None → (row_in c i).number ≡ 0
+  free_at i l e =
       ap (λ (r : Row). r.number) (row_on i l ∙ ap (λ (x : Option Group). row_of x (strip_at s.strip (vec_items s.bytes) i)) e)
-  group_at i (Some g) o l e = stands i g o l e
 
   -- the head of the group that stands there
   head_of_slot : (strip : ℕ) (bytes : List ℕ) (slot : Option Group) (g : Group) → 1 ≤ g.number → (row_of slot (take strip bytes)).number ≡ g.number → length (row_of slot (take strip bytes)).head ≡ g.len → FitsStrip strip slot → length (take strip bytes) ≡ strip → take g.len bytes ≡ (row_of slot (take strip bytes)).head

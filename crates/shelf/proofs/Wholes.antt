@@ -1,16 +1,11 @@
--- The bytes of a shelf are those of its rows, and those behind them; and a head is never empty.
-use Rattle.std.proofs.Common.{◌≡◌, ℕ, zero, suc, ◌*◌, ◌<◌, min, Bool, true, false, cond, ltb, leb, List, [], ◌++◌, map, length, get_or, take, drop, is_some, Ok, Err, vec_items, Some, None, Option, Result, refl, sym, ap, ◌∙◌, suc-mul, add-one, arith, take-add}
+-- The bytes of a shelf are those of its rows, and those behind them.
+use Rattle.std.proofs.Common.{◌≡◌, ℕ, zero, suc, ◌*◌, List, [], ◌++◌, map, get_or, take, drop, vec_items, Some, None, Option, refl, sym, ap, ◌∙◌, suc-mul, add-one, arith, take-add}
 use Rattle.std.proofs.lemmas.List.FromFn.{map-range_with_len_more}
 use Rattle.std.proofs.lemmas.List.{flat_map_more, take-append-drop}
-use Rattle.std.proofs.lemmas.Bool.{cond-true, lt-ltb}
 use Rattle.std.specs.List.{range_with_len, flat_map}
-use Rattle.wire.specs.Faults.{section_fault}
-use Rattle.wire.specs.declared.refusal.Fault.{Fault}
-use Rattle.facts.specs.Head.{after, answer, carried, entries, fitted, mark}
 use Rattle.shelf.specs.declared.shelf.Group.{Group}
 use Rattle.shelf.specs.Rows.{Row, row_at, row_of, strip_at}
 use Rattle.shelf.specs.Strips.{EveryByte}
-use Rattle.shelf.specs.Calls.{NoneFits, if_room, refused}
 
 -- the bytes of one strip
 row_joined : (slot : Option Group) (b : List ℕ) → (row_of slot b).head ++ (row_of slot b).rest ≡ b
@@ -36,17 +31,3 @@ pub every_byte : EveryByte
 every_byte s =
     sym (take-append-drop (s.strips * s.strip) (vec_items s.bytes))
     ∙ ap (λ (b : List ℕ). b ++ drop (s.strips * s.strip) (vec_items s.bytes)) (sym (strips_joined s.strip s.groups (vec_items s.bytes) s.strips))
-
--- a head begins with its mark
-marked : (r : Result (List ℕ) Fault) (h : List ℕ) → after (Ok mark) r ≡ Ok h → 0 < length h
-marked (Ok x) h e = let q : mark ++ x ≡ h = cc in omega (arith, ap length q)
-marked (Err f) h e = let z : ◌≡◌ {A = ℕ} 0 1 = cc in absurd (omega arith)
-
-some_bytes : (b : Bool) (r : Result (List ℕ) Fault) (h : List ℕ) → cond b (Err (section_fault 16 132 0)) (after (Ok mark) r) ≡ Ok h → 0 < length h
-some_bytes true r h e = let z : ◌≡◌ {A = ℕ} 0 1 = cc in absurd (omega arith)
-some_bytes false r h e = marked r h e
-
-pub none-fits : NoneFits
-none-fits bytes work n o at h e =
-    ap (λ (r : Result (List ℕ) Fault). if_room (leb 0 work) (fitted 0 r)) e
-    ∙ ap (if_room (leb 0 work)) (cond-true (ltb (min 0 16777216) (length h)) (refused 32) (Ok h) (lt-ltb 0 (length h) (some_bytes (is_some (at 132)) (entries (answer n o at) carried) h e)))

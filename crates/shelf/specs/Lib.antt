@@ -3,6 +3,7 @@ pub mod Contents
 pub mod Strips
 pub mod Calls
 pub mod Histories
+pub mod Clients
 pub mod Law
 pub mod Sizes
 pub mod Stands

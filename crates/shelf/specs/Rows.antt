@@ -1,5 +1,5 @@
 -- A shelf strip by strip: the group that a strip is held for, its head, and what lies behind the head.
-use Rattle.std.specs.Prelude.{ℕ, ◌*◌, ◌≤◌, Bool, false, ◌==◌, List, [], take, drop, Option, Some, None, slice_index_or}
+use Rattle.std.specs.Prelude.{ℕ, ◌*◌, ◌≤◌, List, [], take, drop, Option, Some, None, slice_index_or}
 use Rattle.shelf.specs.declared.shelf.Group.{Group}
 
 -- A group has a number, and its head is no longer than a strip.
@@ -24,8 +24,3 @@ strip_at strip bytes j = take strip (drop (j * strip) bytes)
 
 abbrev pub row_at : ℕ → List (Option Group) → List ℕ → ℕ → Row
 row_at strip groups bytes j = row_of (slice_index_or groups j None) (strip_at strip bytes j)
-
--- Whether a strip is held for the group with a number.
-abbrev pub holds : ℕ → Option Group → Bool
-holds number None = false
-holds number (Some g) = g.number == number

@@ -4,7 +4,6 @@ use std::marker::Model;
 mod calls;
 mod changes;
 mod filing;
-mod groups;
 mod opening;
 mod places;
 mod sizes;
@@ -33,8 +32,8 @@ const MOST_STRIPS: usize = 64;
 #[derive(Drop)]
 pub struct Shelf {
     strip: usize,
-    // Kept: `(bytes.len() / strip).min(MOST_STRIPS)` is this number too, but only with a case of its own for a refused shelf,
-    // whose strip is 0.
+    // Kept: `(bytes.len() / strip).min(MOST_STRIPS)` is this number too, but with a case of its own for a refused shelf, whose strip
+    // is 0 (`checked_div`, and 0 for none); and each look-up would divide again to know where the groups end.
     strips: usize,
     // the number that the next new group gets, until they are used up
     next: Option<u32>,

@@ -3,16 +3,14 @@
 
 use desk::answer::{answer, open};
 use desk::desk::{Desk, USUAL};
-use desk::lines::Lines;
+use desk::lines::{lines, request_of};
 use desk::request::Request;
 
 fn serve(rt: &HostRuntime) -> anyhow::Result<()> {
-    let mut lines = Lines::new(rt)?;
     let (mut desk, _) = Desk::open(rt.alloc(), USUAL)?;
-    for _ in 0..u64::MAX {
-        let Some(request) = lines.next_request()? else {
-            break;
-        };
+    for line in lines(rt)? {
+        let line = line?;
+        let request = request_of(&line);
         if let Ok(Request::Open(opening)) = request {
             desk = open(rt, opening)?;
         } else {

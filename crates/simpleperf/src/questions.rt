@@ -24,6 +24,8 @@ pub fn symbol_tables<'a, S: Store<'a>>(store: &S) -> Result<Option<SymbolTables<
 }
 
 // One of these files, by its number from 0; none past the last.
+// Kept: a `let .. else` for each thing that may be absent, here and in the two functions below. `and_then` with a closure left
+// goals open, and of one `let .. else` with a nested pattern the proof had no equation for what stood inside.
 pub fn symbol_table<'a, S: Store<'a>>(
     store: &S,
     k: usize,

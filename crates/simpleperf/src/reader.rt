@@ -1,12 +1,12 @@
 // The numbers and texts that symbol records are made of.
 ghost use Rattle.std.specs.Prelude.{◌≡◌, ◌-◌, length};
 ghost use Rattle.simpleperf.specs.Got.{got_of, number_got, text_got};
-ghost use Rattle.simpleperf.specs.Parse.{read_number};
+ghost use Rattle.simpleperf.specs.Parse.{number_or};
 ghost use Rattle.simpleperf.specs.Reading.{SameRecord};
 ghost use Rattle.simpleperf.specs.Tables.{fault_at, u32_in, u64_in, text_in, count_in};
 
 use text::strings::{as_text, before_nul};
-use wire::order::{ByteOrder, tail};
+use wire::order::{ByteOrder, Number, tail};
 use wire::refusal::Refusal;
 
 // Reads from the front of the bytes that are left of a record or a section. What it read is left no more; where it refuses,
@@ -27,29 +27,30 @@ impl<'a> Reader<'a> {
         (self.size as usize).saturating_sub(self.rest.len()) as u32
     }
 
-    // The number of so many bytes that is next, or none where they are too few.
-    fn number<T: Copy>(&mut self, number: Option<T>, width: usize) -> Result<T, Refusal>
-        ensures reads { got_of (λ n. n) result self.new.rest.now ≡ read_number (fault_at 11 self.old.size self.old.rest.now) width self.old.rest.now number }
+    // The number that is next.
+    fn number<N: Number>(&mut self) -> Result<N, Refusal>
+        ensures reads { got_of N.value result self.new.rest.now ≡ number_or (fault_at 11 self.old.size self.old.rest.now) self.old.order N.WIDTH self.old.rest.now }
         ensures record { SameRecord self.old self.new }
     {
         let at = self.offset();
-        let n = number.ok_or(Refusal::SymbolRecordCutShort { at })?;
-        self.rest = tail(self.rest, width);
+        let n = N::read(self.order, self.rest).ok_or(Refusal::SymbolRecordCutShort { at })?;
+        self.rest = tail(self.rest, N::WIDTH);
         Ok(n)
     }
 
+    // Kept: a name for each width, as the definitions of the format have one: a record is read in their words.
     pub(crate) fn u32(&mut self) -> Result<u32, Refusal>
         ensures reads { number_got result self.new.rest.now ≡ u32_in self.old.order self.old.size self.old.rest.now }
         ensures record { SameRecord self.old self.new }
     {
-        self.number(self.order.u32(self.rest), 4)
+        self.number()
     }
 
     pub(crate) fn u64(&mut self) -> Result<u64, Refusal>
         ensures reads { number_got result self.new.rest.now ≡ u64_in self.old.order self.old.size self.old.rest.now }
         ensures record { SameRecord self.old self.new }
     {
-        self.number(self.order.u64(self.rest), 8)
+        self.number()
     }
 
     // A text that ends before its NUL.

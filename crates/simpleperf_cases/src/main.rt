@@ -16,6 +16,8 @@ use wire::order::ByteOrder;
 
 // The records as they are asked for one by one: as many as the walk gives, and none past the last.
 fn agree<'a, S: Store<'a>>(store: &S, tables: SymbolTables<'_>) -> bool {
+    // Kept: `all` over the same pairs was tried, and the check gave no proof of it. Two fields tell which record it is, which is all
+    // that is asked here: a record has no `==`, since its lists are read as they are walked, and what it says is printed below.
     for (k, file) in tables.enumerate() {
         match symbol_table(store, k) {
             Ok(Some(same)) if same.path == file.path && same.min_vaddr == file.min_vaddr => (),
@@ -42,6 +44,7 @@ fn print_line(rt: &HostRuntime, line: &str) -> anyhow::Result<()> {
     let section = decode(rt.alloc(), text.as_bytes())?.context("a line has no whole hexadecimal")?;
     let order = name.parse::<ByteOrder>()?;
     check_records(&section, order)?;
+    // Kept: the words of docs/ASK.md for an order, which answers reads and nothing else here writes.
     let word = match order {
         ByteOrder::Little => "le",
         ByteOrder::Big => "be",

@@ -1,5 +1,5 @@
 -- One more row in the rows of a table.
-use Rattle.std.proofs.Common.{◌≡◌, ℕ, ◌+◌, ◌-◌, ◌<◌, ◌≤◌, min, List, [], ◌∷◌, ◌++◌, length, take, drop, set, Some, None, Ok, Err, Option, Result, sym, ap, ◌∙◌, subst, arith}
+use Rattle.std.proofs.Common.{◌≡◌, ℕ, ◌+◌, ◌-◌, ◌<◌, ◌≤◌, List, [], ◌∷◌, ◌++◌, length, take, drop, set, Some, None, Ok, Err, Option, Result, sym, ap, ◌∙◌, subst, arith}
 use Rattle.std.specs.List as holes
 use Rattle.std.proofs.lemmas.List.{take_at, take-append-le, drop_at, drop-append-le, drop-drop, drop-replicate, set-append_left, length-set, length-drop, append_assoc}
 use Rattle.std.proofs.lemmas.List.Edits.{length-insert}
@@ -31,12 +31,12 @@ module _ {K : Type 0} (o : Order K) (key : Row → K) (given rows : List Row) (r
       subst (λ u. Before u → After u rows) (sym e)
       (λ h. let l = grows o key given (r ∷ []) in (omega arith, h.1))
 
-  module _ (n used : ℕ) (fill : Before (Some n)) (least : used ≡ min (length rows) n) where
+  module _ (used : ℕ) (fill : Before (Some used)) where
     whole : used ≡ length old
-    whole = let e = fill.0 in let l = fill.1 in omega arith
+    whole = fill.0
 
     after_old : rows ≡ old ++ blanks (length rows - used)
-    after_old = let e : length rows - n ≡ length rows - used = let l = fill.1 in omega arith in fill.2 ∙ ap (λ k. old ++ blanks k) e
+    after_old = fill.2
 
     front : take used rows ≡ old
     front = ap (take used) after_old ∙ take_at old (blanks (length rows - used)) used (sym whole)
@@ -45,15 +45,15 @@ module _ {K : Type 0} (o : Order K) (key : Row → K) (given rows : List Row) (r
     at p is = is (subst (Rising o key) (sym front) (rises o key given)) ∙ ap (λ xs. placed o key xs r) front
 
     -- over the row i, which has its key
-    pub over_same : (i : ℕ) → (Rising o key (take used rows) → Ok i ≡ placed o key (take used rows) r) → (after : List Row) → after ≡ set rows i r → After (Some n) after
+    pub over_same : (i : ℕ) → (Rising o key (take used rows) → Ok i ≡ placed o key (take used rows) r) → (after : List Row) → after ≡ set rows i r → After (Some used) after
     over_same i is after after_is =
         let put = put-at o key old r i (at (Ok i) is) in
         let e : new ≡ set old i r = tabled-more o key given r ∙ put.1 in
         let l : length new ≡ length old = ap length e ∙ length-set old i r in
         let m : length after ≡ length rows = ap length after_is ∙ length-set rows i r in
         let w = whole in
-        let f = fill.0 in
-        let b : length rows - used ≡ length after - n = omega arith in (
+        let f = fill.1 in
+        let b : length rows - used ≡ length after - used = omega arith in (
           omega arith,
           omega arith,
           after_is ∙ ap (λ xs. set xs i r) after_old ∙ set-append_left old (blanks (length rows - used)) i r put.0 ∙ (λ j. sym e j ++ blanks (b j)),

@@ -1,6 +1,6 @@
 // A table made in lent rows, item by item, by a reader that goes on when the rows have run out.
 ghost use Rattle.std.specs.Prelude.{◌≡◌, ◌≤◌, List, [], ◌∷◌, ◌++◌, length, take};
-ghost use Rattle.table.specs.Fills.{Filled, Holds, IsSameFill, fits, laid};
+ghost use Rattle.std.specs.Option.{ForSome};
 ghost use Rattle.table.specs.Rows.{blanks};
 ghost use Rattle.table.specs.Table.{Rising, Within, placed};
 ghost use Rattle.table.specs.declared.row.Row.{Row as Rows};
@@ -16,9 +16,14 @@ pub struct Fill<'r, K> {
     rows: &'r mut [Row],
     // How many of the rows are used, from the first on; none where they were too few, and all are blank.
     used: Option<usize>,
+
+    // the rows are that many at least
+    ghost within: { ForSome used (λ n. n ≤ length rows.now) },
 }
 
 impl<'r, K: Kind> Fill<'r, K> {
+    ghost use Rattle.table.specs.Fills.{Filled, Holds, IsSameFill, fits, laid};
+
     // Blanks the rows: no row is given yet.
     pub fn start(kind: K, rows: &'r mut [Row]) -> Fill<'r, K>
         ensures same_rows { result.rows.ghost_name ≡ rows.entry.ghost_name }
@@ -34,7 +39,7 @@ impl<'r, K: Kind> Fill<'r, K> {
         }
     }
 
-    // Where `row` belongs among the rows that are used.
+    // Where `row` belongs among the first rows, which are used.
     fn place(&self, used: usize, row: &Row) -> Result<usize, usize>
         requires { used ≤ length self.now.rows.now }
         ensures within { Within result used }
@@ -52,7 +57,6 @@ impl<'r, K: Kind> Fill<'r, K> {
         let Some(used) = self.used else {
             return;
         };
-        let used = self.rows.len().min(used);
         match self.place(used, &row) {
             Ok(i) => self.rows[i] = row,
             Err(_) if used == self.rows.len() => {

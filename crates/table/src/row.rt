@@ -5,7 +5,8 @@ ghost use Rattle.table.specs.Rows.{part as part_of, key_part, value_part, blanks
 // A number, and two parts of a section by their place and length in it. What they are is for the kind of key to say. A
 // blank row is all 0.
 // Kept: the rows are lent, and lent again for the next recording, so a row holds places and lengths, and no slices, which
-// would bind the caller's memory to one section.
+// would bind the caller's memory to one section. And a part is two fields: rows are public, and with a struct for it each
+// definition that reads or makes a row would go by `row.key.at`, which is no plainer.
 #[derive(Clone, Copy, PartialEq, Eq, Debug)]
 pub struct Row {
     pub number: u32,

@@ -5,7 +5,7 @@ ghost use Rattle.text.specs.Refusals.{refusal_of};
 ghost use Rattle.text.specs.Strings.{before_nul, header_text, read_of};
 
 use std::str::from_utf8;
-use wire::order::ByteOrder;
+use wire::order::{ByteOrder, tail};
 use wire::refusal::Refusal;
 
 // Why a text is refused.
@@ -64,10 +64,8 @@ pub fn read_string<'s>(
 ) -> Result<(&'s str, &'s [u8]), TextFault>
     ensures { read_of result ≡ header_text order section.now }
 {
-    let (Some(len), [_, _, _, _, rest @ ..]) = (order.u32(section), section) else {
-        return Err(TextFault::ShortLength);
-    };
-    let (field, after) = rest
+    let len = order.u32(section).ok_or(TextFault::ShortLength)?;
+    let (field, after) = tail(section, 4)
         .split_at_checked(len as usize)
         .ok_or(TextFault::PastEnd)?;
     let text = as_text(before_nul(field)).ok_or(TextFault::IllFormed)?;

@@ -11,6 +11,8 @@ pub const NO_FEATURE: u32 = 256;
 
 // The features that a case is always of: the command line, the clock data, the symbol records and the symbol tables of
 // the second format.
+// Kept: `Feature` of perf_data has these numbers too, but perf_data lies above this crate and answers by its refusals. Of
+// the thirty-six features that it names, refusals name four.
 const CMDLINE: u32 = 11;
 
 const CLOCK_DATA: u32 = 29;
@@ -36,7 +38,8 @@ pub enum Layer {
 pub struct Fault {
     pub number: u32,
     pub layer: Layer,
-    // Kept: the rules settle that a refusal's feature is 256 where none is meant (docs/REFUSALS.md), so it is a number.
+    // Kept: the rules settle that a refusal's feature is 256 where none is meant (docs/REFUSALS.md), and `fault_of` has the
+    // number 256 there too, so it is a number.
     pub feature: u32,
     pub offset: u32,
 }

@@ -7,7 +7,7 @@ ghost use Rattle.shelf.specs.Histories.{Event, filing};
 ghost use Rattle.shelf.specs.Law.{Continues, Goes};
 
 use super::Shelf;
-use super::changes::wipe;
+use super::opening::in_bounds;
 use image::store::Store;
 use table::row::Row;
 use wire::refusal::Refusal;
@@ -15,16 +15,23 @@ use wire::refusal::Refusal;
 impl Shelf {
     // A shelf over the bytes, which it keeps, with strips of `strip` bytes and numbers from `first` on. All bytes are made 0.
     // Refused with 37 where a value is out of its bounds: then the shelf has no strip, and its bytes are as they were.
+    // Kept: a shelf beside a `Result`. By docs/SHELF.md a refused opening makes a shelf too, which holds the caller's bytes.
     pub fn open(strip: usize, first: u32, bytes: Vec<u8>) -> (Shelf, Result<(), Refusal>)
         ensures answer { outcome result.1 ≡ open_answer strip first bytes.items }
         ensures shelf { result.0 ≡ opening strip first bytes.items }
         ensures law { Goes [] result.0 }
     {
-        Shelf::opened(strip, first, bytes)
+        if in_bounds(strip, first, bytes.len()) {
+            (Shelf::empty(strip, first, bytes), Ok(()))
+        } else {
+            (Shelf::without(bytes), Err(Refusal::BadOpening))
+        }
     }
 
     // Files a store into the group that keeps its head, or into a new one, and answers the group's number. Accepted or
     // refused, all work bytes are 0 and all rows blank at the end; refused, the shelf is as it was.
+    // Kept: the store, the rows and the work bytes as parameters, as `write_head` takes its own: of a struct of the three each
+    // clause would have to say too that the store and the numbers of rows and of bytes are those of before.
     pub fn file<'a, S: Store<'a>>(
         &mut self,
         store: &S,
@@ -38,7 +45,7 @@ impl Shelf {
         ensures law { Continues self.old (Event.filed (filing (length rows.old) (length work.old) (S.endian store.now) (S.map store.now)) (outcome result)) self.new }
     {
         let number = self.take_in(store, rows, work);
-        wipe(work);
+        work.fill(0);
         number
     }
 
@@ -48,7 +55,13 @@ impl Shelf {
         ensures after { self.new ≡ release_after self.old group }
         ensures law { Continues self.old (Event.released group (outcome result)) self.new }
     {
-        self.lower(group)
+        let held = self.place_of(group).ok_or(Refusal::GroupNotHeld)?;
+        if held.group.count > 1 {
+            self.recount(held, held.group.count - 1);
+        } else {
+            self.clear(held.place);
+        }
+        Ok(())
     }
 
     // How many filings of the group have not been released.
@@ -56,7 +69,8 @@ impl Shelf {
         ensures answer { outcome result ≡ count_answer self.now group }
         ensures law { Continues self.now (Event.counted group (outcome result)) self.now }
     {
-        self.tally(group)
+        let held = self.place_of(group).ok_or(Refusal::GroupNotHeld)?;
+        Ok(held.group.count)
     }
 
     // Writes the group's head to the front of `out`, and answers its length. The other bytes are as they were.
@@ -65,6 +79,12 @@ impl Shelf {
         ensures after { out.new ≡ ahead (head_shown self.now group (length out.old)) out.old }
         ensures law { Continues self.now (Event.shown group out.old (outcome result) out.new) self.now }
     {
-        self.write_out(group, out)
+        let held = self.place_of(group).ok_or(Refusal::GroupNotHeld)?;
+        let head = self.head_at(held);
+        if head.len() > out.len() {
+            return Err(Refusal::TooLittleRoom);
+        }
+        out[..head.len()].copy_from_slice(head);
+        Ok(head.len())
     }
 }

@@ -7,13 +7,6 @@ ghost use Rattle.shelf.specs.Stands.{StandsAt};
 
 use super::{Group, Held, Shelf};
 
-// Writes 0 into every byte.
-pub(crate) fn wipe(out: &mut [u8])
-    ensures { out.new ≡ replicate (length out.old) 0 }
-{
-    out.fill(0);
-}
-
 // Writes bytes to the front of a strip, and 0 behind them.
 fn fill_strip(strip: &mut [u8], front: &[u8])
     requires { length front.now ≤ length strip.old }
@@ -21,7 +14,7 @@ fn fill_strip(strip: &mut [u8], front: &[u8])
 {
     let (head, rest) = strip.split_at_mut(front.len());
     head.copy_from_slice(front);
-    wipe(rest);
+    rest.fill(0);
 }
 
 impl Shelf {
@@ -36,8 +29,9 @@ impl Shelf {
         });
     }
 
-    // Kept: that there is such a place, and that a head fits its strip, are clauses here and of `clear` and `keep`. A type for a
-    // place could carry them only with a borrow of the shelf, and the shelf is changed at the place.
+    // Kept: that there is such a place, and that a head fits its strip, are clauses here and of `clear` and `keep`; the second is
+    // one of `settle` too. A type for a place could carry the first only with a borrow of the shelf, and the shelf is changed at
+    // the place. How long a strip is, each shelf says for itself, so a type for heads cannot say that one fits.
 
     // A place gets a group or none, with `head` at the front of its strip and 0 behind.
     fn put(&mut self, i: usize, group: Option<Group>, head: &[u8])
@@ -64,7 +58,6 @@ impl Shelf {
         requires place { i < length self.old.rows }
         requires head { length head.now ≤ self.old.strip }
         requires number { number ≡ self.old.next }
-        requires nonzero { 1 ≤ number }
         ensures { self.new ≡ handed_out (put self.old i (fresh self.old.strip number head.now)) }
     {
         let group = Group {
@@ -72,7 +65,7 @@ impl Shelf {
             count: 1,
             len: head.len(),
         };
-        self.put(i, Some(group), head);
         self.next = number.checked_add(1);
+        self.put(i, Some(group), head);
     }
 }

@@ -12,6 +12,7 @@ use wire::refusal::Refusal;
 
 impl Shelf {
     // Makes the head of a store at the front of the work bytes, and answers its length.
+    // Kept: the store, the rows and the work bytes as parameters, for the reason at `file`.
     fn make_head<'a, S: Store<'a>>(
         &self,
         store: &S,
@@ -49,6 +50,7 @@ impl Shelf {
     }
 
     // What `file` does, but for the work bytes.
+    // Kept: the three as parameters, for the reason at `file`.
     pub(crate) fn take_in<'a, S: Store<'a>>(
         &mut self,
         store: &S,

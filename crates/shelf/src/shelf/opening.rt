@@ -3,16 +3,14 @@ ghost use Rattle.std.specs.Prelude.{◌≡◌, true, vec_len};
 ghost use Rattle.facts.specs.Head.{outcome};
 ghost use Rattle.shelf.specs.Calls.{in_bounds, empty as empty_of, without as without_strips, open_answer, opening as opening_of};
 
-use super::changes::wipe;
 use super::{MOST_STRIPS, Shelf};
-use wire::refusal::Refusal;
 
 const SHORTEST_STRIP: usize = 5;
 
 const LONGEST_STRIP: usize = 65_536;
 
 // Whether the values handed in are within their bounds.
-fn in_bounds(strip: usize, first: u32, room: usize) -> bool
+pub(crate) fn in_bounds(strip: usize, first: u32, room: usize) -> bool
     ensures { result ≡ in_bounds strip first room }
 {
     (SHORTEST_STRIP..=LONGEST_STRIP).contains(&strip) && first >= 1 && strip <= room
@@ -20,12 +18,12 @@ fn in_bounds(strip: usize, first: u32, room: usize) -> bool
 
 impl Shelf {
     // A shelf of free strips, every byte 0.
-    fn empty(strip: usize, first: u32, mut bytes: Vec<u8>) -> Shelf
+    pub(crate) fn empty(strip: usize, first: u32, mut bytes: Vec<u8>) -> Shelf
         requires { in_bounds strip first (vec_len bytes) ≡ true }
         ensures { result ≡ empty_of strip first (vec_len bytes) }
     {
         let strips = (bytes.len() / strip).min(MOST_STRIPS);
-        wipe(&mut bytes);
+        bytes.fill(0);
         Shelf {
             strip,
             strips,
@@ -36,7 +34,7 @@ impl Shelf {
     }
 
     // A shelf with no strip; the bytes are left as they are.
-    fn without(bytes: Vec<u8>) -> Shelf
+    pub(crate) fn without(bytes: Vec<u8>) -> Shelf
         ensures { result ≡ without_strips bytes.items }
     {
         Shelf {
@@ -45,18 +43,6 @@ impl Shelf {
             next: Some(1),
             groups: [None; MOST_STRIPS],
             bytes,
-        }
-    }
-
-    // What `open` does.
-    pub(crate) fn opened(strip: usize, first: u32, bytes: Vec<u8>) -> (Shelf, Result<(), Refusal>)
-        ensures answer { outcome result.1 ≡ open_answer strip first bytes.items }
-        ensures shelf { result.0 ≡ opening_of strip first bytes.items }
-    {
-        if in_bounds(strip, first, bytes.len()) {
-            (Shelf::empty(strip, first, bytes), Ok(()))
-        } else {
-            (Shelf::without(bytes), Err(Refusal::BadOpening))
         }
     }
 }

@@ -2,20 +2,10 @@
 ghost use Rattle.std.specs.Prelude.{◌≡◌};
 ghost use Rattle.std.specs.Option.{is_none};
 ghost use Rattle.shelf.specs.Contents.{row_in};
-ghost use Rattle.shelf.specs.Rows.{holds};
-ghost use Rattle.shelf.specs.Calls.{first_with, is_numbered, has_head, place_of, free_place};
-ghost use Rattle.shelf.specs.Stands.{StandsAt, GroupAt, FindsGroup};
+ghost use Rattle.shelf.specs.Calls.{first_with, has_head, place_of, free_place};
+ghost use Rattle.shelf.specs.Stands.{StandsAt, HeldAt, PassesAt, has_number, FindsGroup};
 
 use super::{Group, Held, Shelf};
-
-// The first strip that is held for the group with a number.
-fn numbered(groups: &[Option<Group>], number: u32) -> Option<usize>
-    ensures { result ≡ first_with (holds number) groups.now }
-{
-    groups
-        .iter()
-        .position(|slot| slot.is_some_and(|group| group.number == number))
-}
 
 // The first strip that is free.
 fn first_free(groups: &[Option<Group>]) -> Option<usize>
@@ -33,19 +23,25 @@ impl Shelf {
     }
 
     // The group at a place, if there is one.
-    fn group_at(&self, i: usize) -> Option<Group>
-        ensures { GroupAt self.now i result }
+    fn held_at(&self, i: usize) -> Option<Held>
+        ensures { HeldAt self.now i result }
     {
-        *self.groups[..self.strips].get(i)?
+        let group = (*self.groups[..self.strips].get(i)?)?;
+        Some(Held { place: i, group })
     }
 
-    // The place of the group with a number, and the group.
+    // The group at a place, if it has this number.
+    fn numbered_at(&self, i: usize, number: u32) -> Option<Held>
+        ensures { PassesAt self.now (has_number number) i result }
+    {
+        self.held_at(i).filter(|held| held.group.number == number)
+    }
+
+    // The group with a number.
     pub(crate) fn place_of(&self, number: u32) -> Option<Held>
         ensures { FindsGroup self.now (place_of self.now number) result }
     {
-        let i = numbered(&self.groups[..self.strips], number)?;
-        let group = self.group_at(i)?;
-        Some(Held { place: i, group })
+        (0..self.strips).find_map(|i| self.numbered_at(i, number))
     }
 
     // The head of a group that is held.
@@ -57,29 +53,17 @@ impl Shelf {
         &self.bytes[from..from + held.group.len]
     }
 
-    // Whether the group at a place keeps `head`.
-    fn keeps(&self, i: usize, head: &[u8]) -> bool
-        ensures { result ≡ has_head head.now (row_in self.now i) }
+    // The group at a place, if it keeps `head`.
+    fn keeping_at(&self, i: usize, head: &[u8]) -> Option<Held>
+        ensures { PassesAt self.now (has_head head.now) i result }
     {
-        match self.group_at(i) {
-            Some(group) => self.head_at(Held { place: i, group }) == head,
-            None => false,
-        }
+        self.held_at(i).filter(|held| self.head_at(*held) == head)
     }
 
-    // The place of the group that keeps `head`.
-    fn place_keeping(&self, head: &[u8]) -> Option<usize>
-        ensures { result ≡ first_with (has_head head.now) self.now.rows }
-    {
-        (0..self.strips).find(|i| self.keeps(*i, head))
-    }
-
-    // That place, and the group.
+    // The group that keeps `head`.
     pub(crate) fn keeping(&self, head: &[u8]) -> Option<Held>
         ensures { FindsGroup self.now (first_with (has_head head.now) self.now.rows) result }
     {
-        let i = self.place_keeping(head)?;
-        let group = self.group_at(i)?;
-        Some(Held { place: i, group })
+        (0..self.strips).find_map(|i| self.keeping_at(i, head))
     }
 }

@@ -7,5 +7,5 @@ use Rattle.head.proofs.head.write_entries.Given as goal
 abbrev pub invariant-loop-feature : goal.invariant-loop-feature
 invariant-loop-feature g l =
     let answers = answer (length l.initial.rows) (g.S.Store.endian l.store) (g.S.Store.map l.store).at in
-    Going (entries answers l.features) l.initial.w (entries answers (drop l.feature-index l.features)) l.w
+    Going (entries answers l.feature-items) l.initial.w (entries answers (drop l.feature-index l.feature-items)) l.w
     × (l.w.at ≤ l.initial.w.at + 4294967302 * l.feature-index)

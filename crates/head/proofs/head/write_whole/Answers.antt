@@ -1,7 +1,4 @@
-use Rattle.std.proofs.Common.{List, length, sym, ◌∙◌, subst}
-use Rattle.facts.specs.declared.carried.Carried.{Carried}
-use Rattle.facts.specs.Head.{answer, entries}
-use Rattle.head.specs.Wrote.{Wrote}
+use Rattle.std.proofs.Common.{length, sym, ◌∙◌}
 use Rattle.head.proofs.Whole.{whole_wrote}
 use Rattle.head.proofs.head.write_whole.Goals as goal
 
@@ -11,4 +8,4 @@ returns g c =
     let o = g.S.Store.endian c.args.store.now in
     let m = g.S.Store.map c.args.store.now in
     whole_wrote n o m.at c.section.result c.section.ensures (sym c.is_some.ensures ∙ c.if-is_some.false) c.put.ensures
-    (subst (λ (fs : List Carried). Wrote (entries (answer n o m.at) fs) c.put.new.self c.write_entries.result c.write_entries.new.w) c.all.ensures c.write_entries.ensures)
+    c.write_entries.ensures

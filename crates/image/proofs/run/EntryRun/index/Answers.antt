@@ -1,4 +1,5 @@
-use Rattle.std.proofs.Common.{sym, refl, ap, ◌∙◌}
+use Rattle.std.proofs.Common.{◌≡◌, ◌<◌, ◌≤◌, length, sym, refl, ap, ◌∙◌, arith, eqb-true}
+use Rattle.std.proofs.lemmas.Bool.{eqb-false}
 use Rattle.std.proofs.lemmas.List.{take_rest}
 use Rattle.image.specs.Meaning.{faulty}
 use Rattle.image.proofs.Runs.{Sized, running_skip, running_put, running_broken, running_done}
@@ -7,7 +8,8 @@ use Rattle.image.proofs.run.EntryRun.index.Goals.{in-Some-feature, in_default-fe
 
 pub returns-in_default : goal.returns-in_default
 returns-in_default g c =
-    ap faulty c.refusal.ensures ∙ running_broken c.loop-rest.invariant g.E.Entries.number c.loop-rest-test.true (sym c.in_default.ensures.is)
+    let some : 0 < length c.loop-rest.rest.now = omega (arith, eqb-false _ 0 (sym c.is_empty.ensures ∙ c.loop-rest-test.true)) in
+    ap faulty c.refusal.ensures ∙ running_broken c.loop-rest.invariant g.E.Entries.number some (sym c.in_default.ensures.is)
 
 pub loop-rest-preserved : goal.loop-rest-preserved
 loop-rest-preserved g c =
@@ -21,4 +23,6 @@ loop-rest-preserved g c =
     ]
 
 pub returns : goal.returns
-returns g c = running_done c.loop-rest.invariant g.E.Entries.number c.loop-rest-test.false
+returns g c =
+    let none : length c.loop-rest.rest.now ≤ 0 = omega (arith, eqb-true _ 0 (sym c.is_empty.ensures ∙ c.loop-rest-test.false)) in
+    running_done c.loop-rest.invariant g.E.Entries.number none

@@ -1,6 +1,5 @@
-use Rattle.std.proofs.Common.{◌≡◌, ℕ, ◌*◌, ◌≤◌, length, replicate, vec_len, None, sym, refl, ap, ◌∙◌, subst, ◌&&◌, leb, arith, rules}
+use Rattle.std.proofs.Common.{◌≡◌, ℕ, ◌*◌, ◌≤◌, replicate, vec_len, None, sym, refl, ap, ◌∙◌, subst, ◌&&◌, leb, arith, rules}
 use Rattle.std.proofs.lemmas.Bool.{and_parts, leb-true}
-use Rattle.std.proofs.lemmas.List.{length-replicate, with_items_is}
 use Rattle.shelf.specs.Strips.{contents_of}
 use Rattle.shelf.specs.Calls.{strips_in}
 use Rattle.shelf.proofs.Openings.{all_free, emptied, strips_fit}
@@ -10,14 +9,14 @@ pub invariant_of-result : goal.invariant_of-result
 invariant_of-result c =
     let strips : c.min-strips.result ≡ strips_in (vec_len c.args.bytes) c.args.strip = search rules in
     let first = (and_parts (leb 1 c.args.first) (leb c.args.strip (vec_len c.args.bytes)) (and_parts (leb 5 c.args.strip && leb c.args.strip 65536) (leb 1 c.args.first && leb c.args.strip (vec_len c.args.bytes)) c.requires).1).0 in
-    record { places = refl; few = omega arith; room = subst (λ (n : ℕ). n * c.args.strip ≤ vec_len c.args.bytes) (sym strips) (strips_fit (vec_len c.args.bytes) c.args.strip); fits = λ j. rw (all_free 64 j) tt; next = leb-true 1 c.args.first first }
+    let fit : c.min-strips.result * c.args.strip ≤ vec_len c.args.bytes = subst (λ (n : ℕ). n * c.args.strip ≤ vec_len c.args.bytes) (sym strips) (strips_fit (vec_len c.args.bytes) c.args.strip) in
+    record { places = refl; few = omega arith; room = omega (arith, fit, c.fill.ensures.len); fits = λ j. rw (all_free 64 j) tt; next = leb-true 1 c.args.first first }
 
 pub returns : goal.returns
 returns c =
     let strip = c.args.strip in
     let room = vec_len c.args.bytes in
     let strips : c.min-strips.result ≡ strips_in room strip = search rules in
-    let wiped : c.wipe.new.out ≡ replicate room 0 = c.wipe.ensures ∙ ap (λ (n : ℕ). replicate n 0) c.deref_mut.ensures.len in
-    ap (contents_of strip c.min-strips.result c.args.first (replicate 64 None)) (with_items_is c.args.bytes c.wipe.new.out (ap length wiped ∙ length-replicate {A = ℕ} room 0) ∙ wiped)
+    ap (contents_of strip c.min-strips.result c.args.first (replicate 64 None)) (c.fill.ensures.items (λ y e. e))
     ∙ ap (λ (n : ℕ). contents_of strip n c.args.first (replicate 64 None) (replicate room 0)) strips
     ∙ emptied strip (strips_in room strip) c.args.first room (replicate 64 None) (all_free 64) (strips_fit room strip)

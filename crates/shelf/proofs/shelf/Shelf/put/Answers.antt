@@ -1,10 +1,10 @@
 use Rattle.std.proofs.Common.{◌≡◌, ℕ, ◌+◌, ◌-◌, ◌*◌, ◌≤◌, List, ◌++◌, length, replicate, ap, ◌∙◌, arith}
-use Rattle.std.proofs.lemmas.List.{length-set, length-append, length-replicate}
+use Rattle.std.proofs.lemmas.List.{length-append, length-replicate}
 use Rattle.shelf.specs.Rows.{row_of}
 use Rattle.shelf.specs.Contents.{Contents, put}
 use Rattle.shelf.specs.Strips.{next_number}
 use Rattle.shelf.proofs.Places.{on_strip, strip_room, strip_small, length-strip}
-use Rattle.shelf.proofs.Changes.{lent_strip, fits_set}
+use Rattle.shelf.proofs.Changes.{lent_strip}
 use Rattle.shelf.proofs.shelf.Shelf.put.Goals as goal
 
 pub overflow_mul-from : goal.overflow_mul-from
@@ -17,30 +17,11 @@ pub slice_bounds-fill_strip-end : goal.slice_bounds-fill_strip-end
 slice_bounds-fill_strip-end c =
     omega (arith, strip_room c.self.inside _ c.self.view_is c.args.i c.self.invariant c.requires.place, c.deref_mut.ensures.len)
 
-pub fill_strip-requires : goal.fill_strip-requires
-fill_strip-requires c =
-    let s = c.self.inside in
-    let from : ℕ = c.args.i * s.strip in
-    let inside : from + ((from + s.strip) - from) ≤ length c.deref_mut.result.now = omega (arith, strip_room s _ c.self.view_is c.args.i c.self.invariant c.requires.place, c.deref_mut.ensures.len) in
-    omega (arith, length-strip from ((from + s.strip) - from) c.deref_mut.result.now inside, c.requires.head, ap (λ (k : Contents). k.strip) c.self.view_is)
-
 pub offset_bounds-self-inside-i : goal.offset_bounds-self-inside-i
 offset_bounds-self-inside-i c = omega (arith, on_strip c.self.inside _ c.self.view_is c.args.i c.requires.place, c.self.invariant.few)
 
 pub bounds-self-inside-i : goal.bounds-self-inside-i
 bounds-self-inside-i c = omega (arith, on_strip c.self.inside _ c.self.view_is c.args.i c.requires.place, c.self.invariant.few)
-
-pub invariant_of-self : goal.invariant_of-self
-invariant_of-self c =
-    let s = c.self.inside in
-    let o = c.self.invariant in
-    record {
-      places = length-set s.groups c.args.i c.args.group ∙ o.places;
-      few = o.few;
-      room = o.room;
-      fits = fits_set s.strip s.groups c.args.i c.args.group o.fits (rw (ap (λ (k : Contents). k.strip) c.self.view_is) c.requires.group);
-      next = o.next;
-    }
 
 pub returns : goal.returns
 returns c =

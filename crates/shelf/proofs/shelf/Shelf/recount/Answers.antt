@@ -9,12 +9,6 @@ use Rattle.shelf.proofs.Places.{on_strip, row_on, strip_room, length-strip, head
 use Rattle.shelf.proofs.Changes.{regrouped, fits_set, recounted, fits_bytes}
 use Rattle.shelf.proofs.shelf.Shelf.recount.Goals as goal
 
-pub offset_bounds-self-inside-held : goal.offset_bounds-self-inside-held
-offset_bounds-self-inside-held c = omega (arith, c.requires.place, c.requires.few)
-
-pub bounds-self-inside-held : goal.bounds-self-inside-held
-bounds-self-inside-held c = omega (arith, c.requires.place, c.requires.few)
-
 pub invariant_of-self : goal.invariant_of-self
 invariant_of-self c =
     let s = c.self.inside in

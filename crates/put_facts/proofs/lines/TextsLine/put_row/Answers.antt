@@ -1,7 +1,7 @@
 use Rattle.std.proofs.Common.{ap}
 use Rattle.facts.specs.Written.{ended}
 use Rattle.put.proofs.Chains.{appends_then, appends_same}
-use Rattle.put_facts.proofs.lines.PairsLine.put_row.Goals as goal
+use Rattle.put_facts.proofs.lines.TextsLine.put_row.Goals as goal
 
 pub returns : goal.returns
 returns c =
