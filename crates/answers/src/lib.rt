@@ -6,7 +6,7 @@ ghost use Rattle.std.specs.Prelude.{◌≡◌, IfOk, vec_len};
 mod facts;
 mod line;
 mod names;
-mod question;
+pub mod question;
 mod rows;
 mod symbols;
 mod texts;

@@ -13,6 +13,9 @@ use wire::order::ByteOrder;
 pub struct Line {
     pub question: Question,
     order: ByteOrder,
+    // The rows that are lent or, for `detect`, the misc.
+    // Kept: a number. It is one word, read alike for every question; an enum of the two would be matched below once for the rows
+    // and once for the misc, each time with an answer made up for the other.
     number: u32,
     section: Option<Vec<u8>>,
 }
@@ -90,7 +93,8 @@ impl Line {
     }
 
     // The mode of a question for a key.
-    // Kept: `of_misc` takes a misc, of 16 bits, and 65,536 may stand here, one more than those hold.
+    // Kept: the lowest bits by hand. `of_misc(self.number as u16)` was tried, and the check refuses the cast: 65,536 may stand
+    // here, and a cast has to fit.
     pub(crate) fn cpu_mode(&self) -> CpuMode {
         CpuMode::from(self.number % 8)
     }

@@ -12,9 +12,10 @@ use table::row::Row;
 use wire::refusal::Refusal;
 
 // A table, by how its rows are read and how one of them is written.
-// Kept: perf_info and mappings_cases have such tables too. What the three share is which call reads the rows and which gives an
-// entry, a line each; all else is what is printed: a write into a text here, a text of its own there, a Display. A trait for all
-// three would be a crate of its own with an entry type for each table, longer than what it saves.
+// Kept: info and mappings_cases have such tables too. What the three share is which call reads the rows and which gives an
+// entry, a line each; all else is what is printed: a write into a text here, a text of its own there, a Display. `Mapping` of
+// mappings is a trait over two of the three tables and has no entries. Public, with a type of entries that borrow from the
+// section, it would save those two lines of two tables, and the table of build ids would still have its own.
 pub trait Table: Copy {
     // How many rows are used, if the table is there.
     fn read(self, rows: &mut [Row]) -> Result<Option<usize>, Refusal>;

@@ -1,21 +1,37 @@
 // Symbol tables.
 use crate::told::Told;
 use hexadecimal::Hex;
-use simpleperf::dex::OffsetList;
 use simpleperf::file::SimpleperfFileRecord;
 use simpleperf::info::SimpleperfTypeSpecificInfo;
+use simpleperf::list::{ItemList, Listed};
 use simpleperf::symbol::{SimpleperfSymbol, SymbolList};
 use simpleperf::tables::SymbolTables;
 use std::alloc::AllocError;
 
-fn write_offsets(out: &mut String, mut offsets: OffsetList<'_>) -> Result<(), AllocError> {
-    if let Some(first) = offsets.next() {
-        write!(out, "{first}")?;
+// Items, with a mark between each two.
+fn write_list<'a, K: Listed<'a>>(
+    out: &mut String,
+    mut items: ItemList<'a, K>,
+    mark: char,
+) -> Result<(), AllocError>
+where
+    K::Item: Told,
+{
+    if let Some(first) = items.next() {
+        first.write(out)?;
     }
-    for offset in offsets {
-        write!(out, ",{offset}")?;
+    for item in items {
+        out.push(mark)?;
+        item.write(out)?;
     }
     Ok(())
+}
+
+// An offset in a list of them.
+impl Told for u64 {
+    fn write(self, out: &mut String) -> Result<(), AllocError> {
+        write!(out, "{self}")
+    }
 }
 
 fn write_info(
@@ -26,7 +42,7 @@ fn write_info(
         None => write!(out, "-"),
         Some(SimpleperfTypeSpecificInfo::SimpleperfDexFileInfo(dex)) => {
             write!(out, "dex=")?;
-            write_offsets(out, dex.dex_file_offset)
+            write_list(out, dex.dex_file_offset, ',')
         }
         Some(SimpleperfTypeSpecificInfo::ElfFile(elf)) => {
             write!(out, "elf={}", elf.file_offset_of_min_vaddr)
@@ -37,21 +53,19 @@ fn write_info(
     }
 }
 
-fn write_symbol(out: &mut String, symbol: SimpleperfSymbol<'_>) -> Result<(), AllocError> {
-    let name = Hex(symbol.name.as_bytes());
-    write!(out, "{},{},x{name}", symbol.vaddr, symbol.len)
+impl Told for SimpleperfSymbol<'_> {
+    fn write(self, out: &mut String) -> Result<(), AllocError> {
+        let name = Hex(self.name.as_bytes());
+        write!(out, "{},{},x{name}", self.vaddr, self.len)
+    }
 }
 
-fn write_symbols(out: &mut String, mut symbols: SymbolList<'_>) -> Result<(), AllocError> {
-    match symbols.next() {
-        None => write!(out, "-")?,
-        Some(first) => write_symbol(out, first)?,
+fn write_symbols(out: &mut String, symbols: SymbolList<'_>) -> Result<(), AllocError> {
+    let mut ahead = symbols;
+    if ahead.next().is_none() {
+        return write!(out, "-");
     }
-    for symbol in symbols {
-        write!(out, ";")?;
-        write_symbol(out, symbol)?;
-    }
-    Ok(())
+    write_list(out, symbols, ';')
 }
 
 fn write_file(out: &mut String, file: SimpleperfFileRecord<'_>) -> Result<(), AllocError> {

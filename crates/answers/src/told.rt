@@ -5,6 +5,8 @@ use std::alloc::AllocError;
 use wire::refusal::Refusal;
 
 // What an answer tells, where there is one.
+// Kept: a trait, and no Display: most of these types are of other crates, which do not write in the words of docs/ASK.md. One type
+// around them all, as `InWords` of info, would have as many impls, and each answer would be put into it first.
 pub trait Told: Copy {
     fn write(self, out: &mut String) -> Result<(), AllocError>;
 }
@@ -22,8 +24,9 @@ pub(crate) fn write_answer<T: Told>(
 }
 
 // Bytes that come one after the other.
-// Kept: the loop of `Hex` once more. `Hex` has its bytes at hand, and to collect these would take memory for each text. What it
-// asks of an iterator is what a `for` over any iterator asks.
+// Kept: the loop of `Hex` once more. One writer over any iterator, in hexadecimal, which `Hex` calls too, was made and is proved;
+// but it is public, and has to ask of its callers what this does, that the bytes come and end, and no public function of a
+// library here asks anything.
 pub(crate) fn write_hex<I: Iterator<Item = u8> + Drop>(
     out: &mut String,
     bytes: I,

@@ -20,8 +20,9 @@ use table::row::{Row, blank_all};
 use wire::refusal::Refusal;
 
 // The row of a record that stands at an offset, if it has a key.
-// Kept: that a place is small, as the makers of refusals in mappings have it: each is called where a section is at hand, and a
-// type for a place would be made there and taken apart here.
+// Kept: that the place and both lengths are small. `parse` reads a record from any bytes, so a record says neither of its path nor
+// of its id that it is short, and only the section that `tabulate` walks bounds all three. A type that has the three facts would
+// be made there for each record, by the proof that now stands at this call, and taken apart here.
 fn row_of(at: usize, event: BuildIdEvent<'_>) -> Option<Row>
     requires at { «at» ≤ 16777216 }
     requires path { length event.path.now ≤ 16777216 }
@@ -57,7 +58,7 @@ fn tabulate(section: Section<'_>, rows: &mut [Row]) -> Option<usize>
 
 // Kept: `mappings` has these steps as `table_of`, over a trait of its own. No crate below the two knows both tables and the
 // questions of stores, and a section of build ids is never refused: the trait's `read` and its clauses would have a fault here
-// that cannot be.
+// that cannot be. And it answers a count, and no slice of the rows, as table's `Fill::finish` does.
 fn read<'a, S: Store<'a>>(store: &S, rows: &mut [Row]) -> Result<Option<usize>, Refusal>
     ensures is { result ≡ answer (length rows.old) (S.endian store.now) ((S.map store.now).at 2) }
     ensures after { rows.new ≡ left (length rows.old) (S.endian store.now) ((S.map store.now).at 2) }

@@ -94,6 +94,7 @@ fn print_section(rt: &HostRuntime, store: SectionStore<'_>, room: usize) -> anyh
 }
 
 fn print_line(rt: &HostRuntime, line: &str) -> anyhow::Result<()> {
+    // Kept: two calls for the hexadecimal at a line's end, for the reason that mappings_cases has at its own.
     let (words, text) = line
         .split_once(" x")
         .context("a line ends in x and hexadecimal")?;

@@ -1,6 +1,7 @@
 -- What a line of a request says: the lines of docs/SHELF.md.
-use Rattle.std.specs.Prelude.{◌≡◌, ◌≢◌, ℕ, ◌≤◌, List, [], Option, MatchOption, codes, ◌==◌}
+use Rattle.std.specs.Prelude.{◌≡◌, ◌≢◌, ℕ, ◌<◌, ◌≤◌, ◌^◌, List, [], Option, Result, MatchOption, MatchResult, codes, ◌==◌}
 use Rattle.std.specs.List.{before_first, after_first}
+use Rattle.std.specs.Str.{IsUtf8}
 use Rattle.std.specs.Str.Parse.{IsNumeral, digits_value}
 use Rattle.desk.specs.declared.request.Opening.{Opening}
 use Rattle.desk.specs.declared.request.Lent.{Lent}
@@ -8,9 +9,13 @@ use Rattle.desk.specs.declared.request.Filing.{Filing}
 use Rattle.desk.specs.declared.request.Request.{Request}
 use Rattle.desk.specs.declared.request.Request.TheVariants.{Open, File, Release, Count, Show}
 
--- A number is made of decimal digits alone.
+-- What is read is what the text says; and it is turned down exactly where it says nothing of the kind.
+abbrev pub Reads : {X E : Type 0} → (X → Type 0) → Result X E → Type 0
+Reads {X} P r = MatchResult r P (λ _. (x : X) → ¬ (P x))
+
+-- A number is made of decimal digits alone, and has 64 bits.
 abbrev pub IsNumber : List ℕ → ℕ → Type 0
-IsNumber word n = IsNumeral 10 word × (digits_value 10 word ≡ n)
+IsNumber word n = IsNumeral 10 word × (digits_value 10 word ≡ n) × (n < 2 ^ 64)
 
 -- The first of some words, and the others behind its space.
 abbrev pub first_of : List ℕ → List ℕ
@@ -44,3 +49,7 @@ IsRequest line (Release n) = (first_of line ≡ codes "release") × IsNumber (ot
 IsRequest line (Count n) = (first_of line ≡ codes "count") × IsNumber (others_of line) n
 IsRequest line (Show n room) =
     (first_of line ≡ codes "show") × IsNumber (first_of (others_of line)) n × IsOptional (others_of line) room
+
+-- A line is the bytes of a text.
+abbrev pub IsRequestLine : List ℕ → Request → Type 0
+IsRequestLine line r = IsUtf8 line × IsRequest line r

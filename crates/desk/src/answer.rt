@@ -64,6 +64,8 @@ fn read_image(rt: &HostRuntime, path: &str) -> io::Result<Vec<u8>> {
 }
 
 // What a call answers; a refusal is a reply too.
+// Kept: by hand. `unwrap_or_else` was tried, with the variant and with a closure that makes it, and the check does not cover it: the
+// reply has lifetimes that neither what the closure captures nor what it takes names. In `open` below it has none of the function's.
 fn told<'desk, 'line>(answer: Result<Reply<'desk, 'line>, Refusal>) -> Reply<'desk, 'line> {
     match answer {
         Ok(reply) => reply,
@@ -76,8 +78,9 @@ fn filed<'desk, 'line>(desk: &mut Desk, filing: Filing<'_>, image: &[u8]) -> Rep
     told(desk.file(filing, image).map(|group| Reply::Filed(group)))
 }
 
-// The answer to a request for a head. No closure makes this reply as `map` makes those of other calls: it borrows the desk, and
-// would have to say so for both lifetimes of the reply.
+// The answer to a request for a head.
+// Kept: no closure makes this reply as `map` makes those of other calls: it borrows the desk, and would have to say so for both
+// lifetimes of the reply.
 fn shown<'desk, 'line>(
     desk: &'desk mut Desk,
     group: u64,

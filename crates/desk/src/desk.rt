@@ -1,20 +1,20 @@
 // The shelf and the memory that is lent for every call, and what is done with them.
 use crate::request::{Filing, Lent, MOST_ROWS, Opening};
 use image::kinds::Image;
-use shelf::shelf::Shelf;
+use shelf::shelf::{LONGEST_STRIP, MOST_STRIPS, Shelf};
 use std::alloc::{AllocError, Global};
 use table::row::Row;
 use wire::refusal::Refusal;
 
 // What an opening has where nothing is said.
 pub const USUAL: Opening = Opening {
-    strip: 65_536,
+    strip: LONGEST_STRIP,
     first: 1,
     bytes: MOST_BYTES,
 };
 
-// 64 strips of the longest kind: more bytes would hold no more.
-const MOST_BYTES: usize = 4_194_304;
+// More bytes would hold no more.
+const MOST_BYTES: usize = MOST_STRIPS * LONGEST_STRIP;
 
 // What a filing has where nothing is said.
 const USUAL_LENT: Lent = Lent {
@@ -22,8 +22,8 @@ const USUAL_LENT: Lent = Lent {
     work: MOST_WORK,
 };
 
-// As long as the longest strip, and so as the longest head: more would not be used.
-const MOST_WORK: usize = 65_536;
+// As long as the longest head: more would not be used.
+const MOST_WORK: usize = LONGEST_STRIP;
 
 #[derive(Drop)]
 pub struct Desk {

@@ -1,5 +1,5 @@
 // A request, taken from a line.
-ghost use Rattle.std.specs.Prelude.{◌≡◌, IfOk, MatchOption, Ok};
+ghost use Rattle.std.specs.Prelude.{◌≡◌, ◌≢◌, ◌⊎◌, [], IfOk, IfErr, MatchOption, MatchResult, Ok, Err, slice_index};
 ghost use Rattle.std.specs.Str.Parse.{without_leading_plus};
 ghost use Rattle.desk.specs.Requests.{first_of, others_of};
 
@@ -26,6 +26,8 @@ pub struct Opening {
 }
 
 // A recording, by its path or by its bytes, and the memory to file it with where it is said.
+// Kept: the source is the word as it stands. An enum of the two would be made where a line is read and taken apart at once, where
+// the recording is read, and the digits are looked at there.
 #[derive(Clone, Copy)]
 pub struct Filing<'a> {
     pub source: &'a str,
@@ -61,6 +63,7 @@ pub const MOST_ROWS: usize = 65_536;
 fn number<N: FromStr<Err = ParseIntError>>(word: &str) -> Result<N, BadLine>
     ensures value { IfOk result (λ n. N.from_str_gives word.now (Ok n)) }
     ensures digits { IfOk result (λ _. without_leading_plus word.now ≡ word.now) }
+    ensures none { IfErr result (λ _. (slice_index word.now 0 ≡ 43) ⊎ ((e : ParseIntError) × N.from_str_gives word.now (Err e))) }
 {
     if word.starts_with('+') {
         return Err(BadLine);
@@ -70,7 +73,7 @@ fn number<N: FromStr<Err = ParseIntError>>(word: &str) -> Result<N, BadLine>
 
 // Two words, with a space between them.
 fn pair(words: &str) -> Result<(&str, &str), BadLine>
-    ensures { IfOk result (λ p. (p.0.now ≡ first_of words.now) × (p.1.now ≡ others_of words.now)) }
+    ensures { MatchResult result (λ p. (p.0.now ≡ first_of words.now) × (p.1.now ≡ others_of words.now)) (λ _. others_of words.now ≡ []) }
 {
     words.split_once(' ').ok_or(BadLine)
 }
@@ -78,7 +81,7 @@ fn pair(words: &str) -> Result<(&str, &str), BadLine>
 // The first word of some, and the others where a space follows it.
 fn first_word(words: &str) -> (&str, Option<&str>)
     ensures first { result.0.now ≡ first_of words.now }
-    ensures others { MatchOption result.1 (first_of words.now ≡ words.now) (λ w. w.now ≡ others_of words.now) }
+    ensures others { MatchOption result.1 (first_of words.now ≡ words.now) (λ w. (w.now ≡ others_of words.now) × (first_of words.now ≢ words.now)) }
 {
     match words.split_once(' ') {
         Some((word, others)) => (word, Some(others)),
@@ -87,11 +90,11 @@ fn first_word(words: &str) -> (&str, Option<&str>)
 }
 
 impl FromStr for Opening {
-    ghost use Rattle.desk.specs.Requests.{IsOpening};
+    ghost use Rattle.desk.specs.Requests.{Reads, IsOpening};
 
     type Err = BadLine;
 
-    ghost from_str_gives = { λ words r. IfOk r (IsOpening words) };
+    ghost from_str_gives = { λ words r. Reads (IsOpening words) r };
 
     fn from_str(words: &str) -> Result<Opening, BadLine> {
         let (strip, words) = pair(words)?;
@@ -105,11 +108,11 @@ impl FromStr for Opening {
 }
 
 impl FromStr for Lent {
-    ghost use Rattle.desk.specs.Requests.{IsLent};
+    ghost use Rattle.desk.specs.Requests.{Reads, IsLent};
 
     type Err = BadLine;
 
-    ghost from_str_gives = { λ words r. IfOk r (IsLent words) };
+    ghost from_str_gives = { λ words r. Reads (IsLent words) r };
 
     fn from_str(words: &str) -> Result<Lent, BadLine> {
         let (rows, work) = pair(words)?;
@@ -123,11 +126,11 @@ impl FromStr for Lent {
 }
 
 impl<'a> TryFrom<&'a str> for Filing<'a> {
-    ghost use Rattle.desk.specs.Requests.{IsFiling};
+    ghost use Rattle.desk.specs.Requests.{Reads, IsFiling};
 
     type Error = BadLine;
 
-    ghost try_from_gives = { λ words r. IfOk r (IsFiling words.now) };
+    ghost try_from_gives = { λ words r. Reads (IsFiling words.now) r };
 
     fn try_from(words: &'a str) -> Result<Filing<'a>, BadLine> {
         let (source, lent) = first_word(words);
@@ -140,11 +143,11 @@ impl<'a> TryFrom<&'a str> for Filing<'a> {
 }
 
 impl<'a> TryFrom<&'a str> for Request<'a> {
-    ghost use Rattle.desk.specs.Requests.{IsRequest};
+    ghost use Rattle.desk.specs.Requests.{Reads, IsRequest};
 
     type Error = BadLine;
 
-    ghost try_from_gives = { λ line r. IfOk r (IsRequest line.now) };
+    ghost try_from_gives = { λ line r. Reads (IsRequest line.now) r };
 
     fn try_from(line: &'a str) -> Result<Request<'a>, BadLine> {
         let (name, words) = pair(line)?;

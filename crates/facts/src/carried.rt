@@ -25,8 +25,9 @@ pub enum Carried {
 
 impl Carried {
     // All of them, by rising numbers.
-    // Kept: a function and no constant: its clause says once which features they are, and in which order. Of a constant the proof
-    // of each caller would compute that.
+    // Kept: a function, whose clause says here which features they are, and in which order. With a constant in its place the loop
+    // over them in `head` was proved too, but a constant has no clause: the check of this crate let a feature be left out.
+    // `CpuMode::ALL` is read in its own crate alone, and a clause there says what is found in it.
     pub fn all() -> [Carried; 15]
         ensures { result ≡ carried }
     {
@@ -48,12 +49,22 @@ impl Carried {
             Carried::SimpleperfMetaInfo,
         ]
     }
+}
 
-    // The feature's number, of the two bytes that a head has for it.
-    // Kept: a method: `u16::from(feature)` would say less plainly which number it is.
-    pub fn number(self) -> u16
-        ensures { result ≡ number_of self }
-    {
-        self as u16
+// The feature's number, of the two bytes that a head has for it.
+impl From<Carried> for u16 {
+    ghost from_gives = { λ feature number. number ≡ number_of feature };
+
+    fn from(feature: Carried) -> u16 {
+        feature as u16
+    }
+}
+
+// The same, of the four bytes that a store is asked by.
+impl From<Carried> for u32 {
+    ghost from_gives = { λ feature number. number ≡ number_of feature };
+
+    fn from(feature: Carried) -> u32 {
+        u32::from(u16::from(feature))
     }
 }

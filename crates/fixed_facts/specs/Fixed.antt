@@ -25,50 +25,71 @@ abbrev pub and_then : {V W : Type 0} → Result V Fault → (V → Result W Faul
 and_then (Ok v) more = more v
 and_then (Err f) more = Err f
 
+-- Each fact is read in the section of a feature, which its faults name, and then in that of its own feature.
+
 -- Two u32.
-abbrev pub nr_cpus : ByteOrder → List ℕ → Result NrCpus Fault
-nr_cpus o s =
-    and_then (field 7 o 4 s 0) (λ available.
-    and_then (field 7 o 4 s 4) (λ online.
+abbrev pub nr_cpus_in : ℕ → ByteOrder → List ℕ → Result NrCpus Fault
+nr_cpus_in feature o s =
+    and_then (field feature o 4 s 0) (λ available.
+    and_then (field feature o 4 s 4) (λ online.
     Ok (record { nr_cpus_available = available; nr_cpus_online = online })))
 
+abbrev pub nr_cpus : ByteOrder → List ℕ → Result NrCpus Fault
+nr_cpus = nr_cpus_in 7
+
 -- Two u64.
-abbrev pub sample_time_range : ByteOrder → List ℕ → Result SampleTimeRange Fault
-sample_time_range o s =
-    and_then (field 21 o 8 s 0) (λ first.
-    and_then (field 21 o 8 s 8) (λ last.
+abbrev pub sample_time_range_in : ℕ → ByteOrder → List ℕ → Result SampleTimeRange Fault
+sample_time_range_in feature o s =
+    and_then (field feature o 8 s 0) (λ first.
+    and_then (field feature o 8 s 8) (λ last.
     Ok (record { first_sample_time = first; last_sample_time = last })))
 
+abbrev pub sample_time_range : ByteOrder → List ℕ → Result SampleTimeRange Fault
+sample_time_range = sample_time_range_in 21
+
 -- Five u32.
-abbrev pub compression_info : ByteOrder → List ℕ → Result CompressionInfo Fault
-compression_info o s =
-    and_then (field 27 o 4 s 0) (λ version.
-    and_then (field 27 o 4 s 4) (λ kind.
-    and_then (field 27 o 4 s 8) (λ level.
-    and_then (field 27 o 4 s 12) (λ ratio.
-    and_then (field 27 o 4 s 16) (λ mmap.
+abbrev pub compression_info_in : ℕ → ByteOrder → List ℕ → Result CompressionInfo Fault
+compression_info_in feature o s =
+    and_then (field feature o 4 s 0) (λ version.
+    and_then (field feature o 4 s 4) (λ kind.
+    and_then (field feature o 4 s 8) (λ level.
+    and_then (field feature o 4 s 12) (λ ratio.
+    and_then (field feature o 4 s 16) (λ mmap.
     Ok (record { version = version; type_ = kind; level = level; ratio = ratio; mmap_len = mmap }))))))
 
--- A u32 version, which has to be 1 before anything after it is read; a u32 and two u64.
-abbrev pub clock_data : ByteOrder → List ℕ → Result ClockData Fault
-clock_data o s =
-    and_then (field 29 o 4 s 0) (λ version.
+abbrev pub compression_info : ByteOrder → List ℕ → Result CompressionInfo Fault
+compression_info = compression_info_in 27
+
+-- A u32 version, which has to be 1 before anything after it is read; a u32 and two u64. Another version is refused as that of
+-- the clock data, whatever the feature.
+abbrev pub clock_data_in : ℕ → ByteOrder → List ℕ → Result ClockData Fault
+clock_data_in feature o s =
+    and_then (field feature o 4 s 0) (λ version.
     cond (version == 1)
-    (and_then (field 29 o 4 s 4) (λ clockid.
-    and_then (field 29 o 8 s 8) (λ wall.
-    and_then (field 29 o 8 s 16) (λ time.
+    (and_then (field feature o 4 s 4) (λ clockid.
+    and_then (field feature o 8 s 8) (λ wall.
+    and_then (field feature o 8 s 16) (λ time.
     Ok (record { clockid = clockid; wall_clock_ns = wall; clockid_time_ns = time })))))
     (Err (section_fault 12 29 0)))
+
+abbrev pub clock_data : ByteOrder → List ℕ → Result ClockData Fault
+clock_data = clock_data_in 29
 
 -- One u64, whose section is too small if it has fewer than eight bytes.
 abbrev pub whole64 : ℕ → ByteOrder → List ℕ → Result ℕ Fault
 whole64 feature o s = number_or (section_fault 6 feature 0) (number o 8 s)
 
+abbrev pub total_mem_in : ℕ → ByteOrder → List ℕ → Result TotalMem Fault
+total_mem_in feature o s = and_then (whole64 feature o s) (λ n. Ok (record { kilobytes = n }))
+
 abbrev pub total_mem : ByteOrder → List ℕ → Result TotalMem Fault
-total_mem o s = and_then (whole64 10 o s) (λ n. Ok (record { kilobytes = n }))
+total_mem = total_mem_in 10
+
+abbrev pub clock_frequency_in : ℕ → ByteOrder → List ℕ → Result ClockFrequency Fault
+clock_frequency_in feature o s = and_then (whole64 feature o s) (λ n. Ok (record { ns_per_tick = n }))
 
 abbrev pub clock_frequency : ByteOrder → List ℕ → Result ClockFrequency Fault
-clock_frequency o s = and_then (whole64 23 o s) (λ n. Ok (record { ns_per_tick = n }))
+clock_frequency = clock_frequency_in 23
 
 -- Of a section only as many bytes are read as the fact has; further bytes are ignored.
 abbrev pub of_first : {V : Type 0} → ℕ → (ByteOrder → List ℕ → Result V Fault) → ByteOrder → List ℕ → Result V Fault

@@ -2,7 +2,7 @@
 ghost use Rattle.std.specs.Prelude.{◌≡◌, ℕ, List, Result as Answer};
 ghost use Rattle.wire.specs.declared.order.ByteOrder.{ByteOrder as Order};
 ghost use Rattle.wire.specs.declared.refusal.Fault.{Fault};
-ghost use Rattle.fixed_facts.specs.Fixed.{field, whole64, nr_cpus, sample_time_range, compression_info, clock_data, total_mem, clock_frequency, parsed, parsed_as};
+ghost use Rattle.fixed_facts.specs.Fixed.{field, whole64, nr_cpus_in, sample_time_range_in, compression_info_in, clock_data_in, total_mem_in, clock_frequency_in, parsed, parsed_as};
 
 use perf_data::features::Feature;
 use wire::order::{ByteOrder, Number, tail};
@@ -19,15 +19,15 @@ pub trait FixedFact: Sized {
 
     ghost STRUCT_SIZE: { ℕ };
 
-    // What its bytes are read as.
-    ghost read: { Order → List ℕ → Answer Self Fault };
+    // What its bytes are read as, in the section of a feature.
+    ghost read: { ℕ → Order → List ℕ → Answer Self Fault };
 
-    // Reads the fields, which are those of the feature's section.
+    // Reads the fields. What is refused is so as of the feature whose section they are in.
     fn from_fields(fields: &Fields<'_>) -> Result<Self, Refusal>
-        ensures { fields.now.feature ≡ FEATURE → parsed result ≡ read fields.now.order fields.now.bytes.now };
+        ensures { parsed result ≡ read fields.now.feature fields.now.order fields.now.bytes.now };
 
     fn parse(order: ByteOrder, bytes: &[u8]) -> Result<Self, Refusal>
-        ensures { parsed result ≡ read order bytes.now }
+        ensures { parsed result ≡ read FEATURE order bytes.now }
     {
         Self::from_fields(&Fields {
             feature: Self::FEATURE,
@@ -86,7 +86,7 @@ impl FixedFact for NrCpus {
 
     ghost STRUCT_SIZE = { 8 };
 
-    ghost read = { nr_cpus };
+    ghost read = { nr_cpus_in };
 
     fn from_fields(fields: &Fields<'_>) -> Result<NrCpus, Refusal> {
         Ok(NrCpus {
@@ -111,7 +111,7 @@ impl FixedFact for TotalMem {
 
     ghost STRUCT_SIZE = { 8 };
 
-    ghost read = { total_mem };
+    ghost read = { total_mem_in };
 
     fn from_fields(fields: &Fields<'_>) -> Result<TotalMem, Refusal> {
         Ok(TotalMem {
@@ -136,7 +136,7 @@ impl FixedFact for SampleTimeRange {
 
     ghost STRUCT_SIZE = { 16 };
 
-    ghost read = { sample_time_range };
+    ghost read = { sample_time_range_in };
 
     fn from_fields(fields: &Fields<'_>) -> Result<SampleTimeRange, Refusal> {
         Ok(SampleTimeRange {
@@ -161,7 +161,7 @@ impl FixedFact for ClockFrequency {
 
     ghost STRUCT_SIZE = { 8 };
 
-    ghost read = { clock_frequency };
+    ghost read = { clock_frequency_in };
 
     fn from_fields(fields: &Fields<'_>) -> Result<ClockFrequency, Refusal> {
         Ok(ClockFrequency {
@@ -192,7 +192,7 @@ impl FixedFact for CompressionInfo {
 
     ghost STRUCT_SIZE = { 20 };
 
-    ghost read = { compression_info };
+    ghost read = { compression_info_in };
 
     fn from_fields(fields: &Fields<'_>) -> Result<CompressionInfo, Refusal> {
         Ok(CompressionInfo {
@@ -222,7 +222,7 @@ impl FixedFact for ClockData {
 
     ghost STRUCT_SIZE = { 24 };
 
-    ghost read = { clock_data };
+    ghost read = { clock_data_in };
 
     fn from_fields(fields: &Fields<'_>) -> Result<ClockData, Refusal> {
         let version: u32 = fields.at(0)?;

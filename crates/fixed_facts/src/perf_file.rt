@@ -13,8 +13,10 @@ use wire::refusal::Refusal;
 
 // Of a section that is a fact of a fixed length. Further bytes are ignored.
 fn fixed_fact<'a, F: FixedFact, S: Store<'a>>(store: &S) -> Result<Option<F>, Refusal>
-    ensures { answered (λ x. x) result ≡ question (of_first F.STRUCT_SIZE F.read) (S.endian store.now) ((S.map store.now).at F.FEATURE) }
+    ensures { answered (λ x. x) result ≡ question (of_first F.STRUCT_SIZE (F.read F.FEATURE)) (S.endian store.now) ((S.map store.now).at F.FEATURE) }
 {
+    // Kept: no `map` and `transpose`, as `cmdline` of perf_data has them: tried, and the borrow checker does not cover a `map`
+    // by a function whose result is a type parameter.
     let Some(section) = section_of(store, F::FEATURE) else {
         return Ok(None);
     };

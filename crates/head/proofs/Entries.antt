@@ -1,6 +1,6 @@
 -- The loop that writes the entries of some features.
-use Rattle.std.proofs.Common.{◌≡◌, ℕ, ◌+◌, ◌<◌, ◌≤◌, List, length, get_or, drop, IsErrAnd, Ok, Err, Result, ap, ◌∙◌, subst}
-use Rattle.std.proofs.lemmas.List.{drop_more, drop_all}
+use Rattle.std.proofs.Common.{◌≡◌, ℕ, ◌+◌, ◌<◌, List, length, get_or, drop, IsErrAnd, Ok, Err, Result, ap, ◌∙◌, subst}
+use Rattle.std.proofs.lemmas.List.{drop_more}
 use Rattle.wire.specs.Faults.{fault_of}
 use Rattle.wire.specs.declared.refusal.Fault.{Fault}
 use Rattle.wire.specs.declared.refusal.Refusal.{Refusal}
@@ -9,7 +9,7 @@ use Rattle.facts.specs.declared.carried.Carried.TheVariants.{BuildId}
 use Rattle.facts.specs.Head.{Answer, entry, after, entries}
 use Rattle.put.specs.declared.writer.Writer.{Writer}
 use Rattle.head.specs.Wrote.{Wrote}
-use Rattle.head.proofs.Writes.{Going, going_more, going_all, going_broken, wrote_ok, wrote_err}
+use Rattle.head.proofs.Writes.{Going, going_more, going_broken, wrote_ok, wrote_err}
 
 -- with as many rows as there were at first
 pub as_many : (answers : ℕ → Carried → Answer) (f : Carried) {k n : ℕ} {u v : Writer} {r : Result (Unit {0}) Refusal} → k ≡ n → Wrote (entry f (answers k f)) u r v → Wrote (entry f (answers n f)) u r v
@@ -30,6 +30,3 @@ module _ (answers : Carried → Answer) (fs : List Carried) (i : ℕ) where
     pub entries-fault : (r : Result (Unit {0}) Refusal) (e : Refusal) {w : Writer} → i < length fs → IsErrAnd r (λ y. y ≡ e) → Wrote (entry (get_or fs i BuildId) (answers (get_or fs i BuildId))) v (Err e) w → Wrote x u r w
     entries-fault r e h by w =
         going_broken r e going w.same_reference by (entries_next (Err (fault_of e)) h (wrote_err (entry (get_or fs i BuildId) (answers (get_or fs i BuildId))) e w))
-
-    pub entries_all : length fs ≤ i → Wrote x u (Ok tt) v
-    entries_all h = going_all going (ap (λ (z : List Carried). entries answers z) (drop_all i fs h))

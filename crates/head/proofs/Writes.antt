@@ -1,6 +1,6 @@
 -- One write after another.
 use Rattle.std.proofs.Common.{◌≡◌, ℕ, List, [], ◌++◌, IsErrAnd, Ok, Err, Result, sym, refl, ap, ◌∙◌, subst}
-use Rattle.std.proofs.lemmas.List.{append_assoc, append-nil}
+use Rattle.std.proofs.lemmas.List.{append_assoc}
 use Rattle.wire.specs.Faults.{fault_of}
 use Rattle.wire.specs.declared.refusal.Fault.{Fault}
 use Rattle.wire.specs.declared.refusal.Refusal.{Refusal}
@@ -80,10 +80,6 @@ going_more y more g e a = record {
   is = g.is ∙ (ap (λ (r : Result (List ℕ) Fault). after (Ok g.done) r) e ∙ after-after g.done y more);
   appends = appends_then g.appends a;
 }
-
-pub going_all : {x rest : Result (List ℕ) Fault} {u v : Writer} → Going x u rest v → rest ≡ Ok [] → Wrote x u (Ok tt) v
-going_all g e =
-    wrote g.done (g.is ∙ (ap (λ (r : Result (List ℕ) Fault). after (Ok g.done) r) e ∙ ap (λ (w : List ℕ). Ok w) (append-nil g.done))) g.appends
 
 pub going_broken : {x rest : Result (List ℕ) Fault} {u v w : Writer} (r : Result (Unit {0}) Refusal) (e : Refusal) → Going x u rest v → w.out.ghost_name ≡ v.out.ghost_name → IsErrAnd r (λ y. y ≡ e) → rest ≡ Err (fault_of e) → Wrote x u r w
 going_broken r e g same b h =

@@ -15,13 +15,13 @@ use table::row::{Row, blank_all};
 use wire::refusal::Refusal;
 
 // `PRH`, and the version 1.
-// Kept: the reader (image/head.rt) has these as a mark and a number, since it tells an image's kind by the mark alone. A change
-// here or there alone is refused: what is written is proved to be read again.
+// Kept: the reader (image/head.rt) has these as a mark and a number, since it tells an image's kind by the mark alone. To take them
+// from there, that library would have to show how a head begins, for this line alone; what is written is proved to be read again.
 const MARK: &[u8; 5] = b"PRH\x01\0";
 
 // What stands before a fact: its feature's number, and its length.
-// Kept: the reader's `SECTION_AT` (image/head.rt) is this number too. Each stands beside the code that puts or takes these six
-// bytes, and the same proof ties them.
+// Kept: the reader's `SECTION_AT` (image/head.rt) is this number too. To take it from there, that library would have to show it, for
+// this line alone; the same proof ties the two.
 const FRONT: usize = 6;
 
 // Kept: the store, the rows and the writer go from function to function as parameters, as `put_fact` takes them. A struct of the
@@ -49,7 +49,7 @@ fn write_entry<'a, S: Store<'a>>(
     }
     let end = w.at();
     w.go_to(start);
-    w.put_number(feature.number());
+    w.put_number(u16::from(feature));
     w.put_number((end - from) as u32);
     w.go_to(end);
     Ok(())

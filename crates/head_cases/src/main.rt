@@ -79,6 +79,7 @@ fn print_line(
     rows: &mut [Row],
     room: &mut [u8],
 ) -> anyhow::Result<()> {
+    // Kept: two calls for the hexadecimal at a line's end, for the reason that mappings_cases has at its own.
     let (front, text) = line.split_once(" x").context(
         "a line is a number of rows, bytes of room, x and hexadecimal",
     )?;

@@ -23,17 +23,16 @@ fn digit(c: u8) -> Option<u8>
 pub fn decode(heap: Global, text: &[u8]) -> Result<Option<Vec<u8>>, AllocError>
     ensures { IfOk result (λ v. items v ≡ bytes_of text.now) }
 {
+    let (pairs, odd) = text.as_chunks::<2>();
+    if !odd.is_empty() {
+        return Ok(None);
+    }
     let mut bytes = Vec::new(heap);
-    let mut rest = text;
-    while let [a, b, more @ ..] = rest {
-        let (Some(high), Some(low)) = (digit(*a), digit(*b)) else {
+    for [high, low] in pairs {
+        let (Some(high), Some(low)) = (digit(*high), digit(*low)) else {
             return Ok(None);
         };
         bytes.push(16 * high + low)?;
-        rest = more;
-    }
-    if !rest.is_empty() {
-        return Ok(None);
     }
     Ok(Some(bytes))
 }

@@ -1,11 +1,9 @@
 // The pipe image: the mark, the u64 16, and then records of a u32 type, a u16 misc and a u16 size of the whole record.
 // A record of type 80 carries a section: a u64 feature number, and the bytes after it. The last record for a number stands.
-ghost use Rattle.std.specs.Prelude.{◌≡◌, ◌<◌, ◌≤◌, length, IfSome, Some};
-ghost use Rattle.wire.specs.Numbers.{number_at};
+ghost use Rattle.std.specs.Prelude.{◌≡◌, ◌<◌, ◌≤◌, length, IfSome};
 ghost use Rattle.image.specs.Laid.{PipeLaid};
-ghost use Rattle.image.specs.Index.{section_in};
+ghost use Rattle.image.specs.Index.{image_meaning};
 ghost use Rattle.image.specs.Pipe.{pipe_front, pipe_image};
-ghost use Rattle.image.specs.Meaning.{opened};
 
 use crate::mark::marked;
 use crate::opened::{Opened, sized};
@@ -30,16 +28,6 @@ struct Records {
     order: ByteOrder,
 }
 
-impl Records {
-    // The number of the feature whose section a record carries.
-    fn feature(&self, s: &[u8]) -> Option<u64>
-        requires { 16 ≤ length s.now }
-        ensures { result ≡ Some (number_at self.now.order 8 s.now 8) }
-    {
-        self.order.u64(tail(s, 8))
-    }
-}
-
 impl Entries for Records {
     ghost front = { λ r. pipe_front r.order };
 
@@ -47,7 +35,7 @@ impl Entries for Records {
 
     fn front(&self, before: Option<u64>, s: &[u8]) -> Option<Front> {
         let kind = self.order.u32(s)?;
-        let size = self.order.u16(tail(s, 6))? as usize;
+        let size = usize::from(self.order.u16(tail(s, 6))?);
         if size < RECORD_SIZE || size > s.len() {
             return None;
         }
@@ -62,7 +50,7 @@ impl Entries for Records {
             return None;
         }
         Some(Front {
-            feature: self.feature(s),
+            feature: self.order.u64(tail(s, 8)),
             skip: SECTION_AT,
             size,
         })
@@ -81,14 +69,14 @@ pub type PipeImage<'a> = Opened<'a, Pipe>;
 
 impl<'a> Opened<'a, Pipe> {
     pub fn open(image: &'a [u8]) -> Result<PipeImage<'a>, Refusal>
-        ensures means { opened (λ s. s.index.order) (λ s. section_in s.index) result ≡ pipe_image image.now }
-        ensures laid { PipeLaid image.now (opened (λ s. s.index.order) (λ s. section_in s.index) result) }
+        ensures means { image_meaning result ≡ pipe_image image.now }
+        ensures laid { PipeLaid image.now (image_meaning result) }
     {
         Self::read(image)
     }
 
     fn read(image: &'a [u8]) -> Result<PipeImage<'a>, Refusal>
-        ensures { opened (λ s. s.index.order) (λ s. section_in s.index) result ≡ pipe_image image.now }
+        ensures { image_meaning result ≡ pipe_image image.now }
     {
         sized(image, HEADER_SIZE)?;
         let order = marked(image, HEADER_SIZE as u64).ok_or(Refusal::WrongMark)?;

@@ -37,6 +37,7 @@ fn print_opened<'a, S: Store<'a> + Drop>(
 }
 
 fn print_line(rt: &HostRuntime, line: &str) -> anyhow::Result<()> {
+    // Kept: two calls for the hexadecimal at a line's end, for the reason that mappings_cases has at its own.
     let (kind, text) = line
         .split_once(" x")
         .context("a line is a kind, a space, x and hexadecimal")?;

@@ -29,7 +29,8 @@ fn serve(rt: &HostRuntime) -> anyhow::Result<()> {
     };
     let (mut desk, taken) = first(rt, request_of(&line?))?;
     let mut requests = u64::from(taken);
-    // Kept: the requests are counted by hand, since they are answered as they come: `count` would have a closure change the desk.
+    // Kept: the requests are counted by hand: a line that cannot be read or answered ends the run by `?`, which `filter` and `count`
+    // would not pass on.
     for line in lines {
         if answer(rt, &mut desk, request_of(&line?))? {
             requests = requests.saturating_add(1);

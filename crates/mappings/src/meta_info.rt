@@ -27,14 +27,12 @@ pub struct MetaEntry<'a> {
 }
 
 // A piece at an offset that is no well-formed text.
-// Kept: that the place is small is asked for. A type for a place would be made at each call and taken apart here.
-fn ill_formed(at: usize) -> Refusal
-    requires { at ≤ 16777216 }
-    ensures { fault_of result ≡ section_fault 10 129 «at» }
+fn ill_formed(at: u32) -> Refusal
+    ensures { fault_of result ≡ section_fault 10 129 at }
 {
     Refusal::IllFormedText {
         feature: MetaInfo::FEATURE,
-        at: at as u32,
+        at,
     }
 }
 
@@ -52,10 +50,10 @@ fn read_pair(section: Section<'_>, at: usize) -> Result<Option<Row>, Refusal>
     }
     let value = before_nul(tail(section.bytes, value_at));
     if !well_formed(key) {
-        return Err(ill_formed(at));
+        return Err(ill_formed(at as u32));
     }
     if !well_formed(value) {
-        return Err(ill_formed(value_at));
+        return Err(ill_formed(value_at as u32));
     }
     Ok(Some(Row {
         number: 0,
@@ -81,6 +79,7 @@ impl Mapping for MetaInfo {
 
     const FEATURE: u32 = Feature::SIMPLEPERF_META_INFO.0;
 
+    #[tactic(auto, using(crate::proofs::MetaTied::info_tied))]
     fn read(section: Section<'_>, rows: &mut [Row]) -> Result<Option<usize>, Refusal> {
         let texts = Texts {
             section: section.bytes,

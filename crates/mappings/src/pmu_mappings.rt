@@ -33,14 +33,12 @@ pub struct PmuEntry<'a> {
 }
 
 // A number, or a name, that does not end within the section.
-// Kept: that the place is small is asked for, as in meta_info.rt.
-fn cut_short(at: usize) -> Refusal
-    requires { at ≤ 16777224 }
-    ensures { fault_of result ≡ cut «at» }
+fn cut_short(at: u32) -> Refusal
+    ensures { fault_of result ≡ cut at }
 {
     Refusal::CutShort {
         feature: PmuMappings::FEATURE,
-        at: at as u32,
+        at,
     }
 }
 
@@ -55,15 +53,15 @@ fn past_text(order: ByteOrder, s: &[u8]) -> &[u8]
 }
 
 // The item that the rest of a section begins with.
-// Kept: the section and what is left of it. A cursor would hold these two, and the place as its method; but `read_string` answers
-// what follows a text, which each step would have to put back into the cursor, and the clause speaks of the two.
+// Kept: the section and what is left of it, and no cursor: as simpleperf's `Reader` it would need a method with a contract for a
+// number, for a text and for the place, longer than this loop and that over the texts of a list in perf_data.
 fn read_item<'a>(section: Section<'a>, rest: &'a [u8]) -> Result<Item<'a>, Refusal>
     requires { length rest.now ≤ length section.bytes.now }
     ensures { item_read result ≡ item_at name_row section.entry.order (length section.entry.bytes.now - length rest.now) rest.now }
 {
     let at = section.bytes.len() - rest.len();
     let Some(number) = section.order.u32(rest) else {
-        return Err(cut_short(at));
+        return Err(cut_short(at as u32));
     };
     let text = tail(rest, 4);
     match read_string(section.order, text) {
@@ -80,8 +78,8 @@ fn read_item<'a>(section: Section<'a>, rest: &'a [u8]) -> Result<Item<'a>, Refus
                 rest,
             })
         }
-        Err(TextFault::ShortLength) => Err(cut_short(at + 4)),
-        Err(TextFault::PastEnd) => Err(cut_short(at + 8)),
+        Err(TextFault::ShortLength) => Err(cut_short(at as u32 + 4)),
+        Err(TextFault::PastEnd) => Err(cut_short(at as u32 + 8)),
         Err(TextFault::IllFormed) => Ok(Item {
             row: None,
             rest: past_text(section.order, text),
@@ -104,6 +102,7 @@ impl Mapping for PmuMappings {
 
     const FEATURE: u32 = Feature::PMU_MAPPINGS.0;
 
+    #[tactic(auto, using(crate::proofs::PmuTied::names_tied))]
     fn read(section: Section<'_>, rows: &mut [Row]) -> Result<Option<usize>, Refusal> {
         let Some(count) = section.order.u32(section.bytes) else {
             return Err(cut_short(0));

@@ -10,9 +10,10 @@ use std::str::FromStr;
 use table::row::Row;
 use wire::refusal::Refusal;
 
-// Kept: an enum, where answers and perf_info have a trait of three types: a question's word is parsed to one value, which stands for
+// Kept: an enum, where answers and info have a trait of three types: a question's word is parsed to one value, which stands for
 // either table. What those two have in common with this one is which call reads the rows and which gives an entry, a line each; all
-// else is what they print, in forms of their own, so a trait for all three would be a crate with an entry type for each table.
+// else is what they print, in forms of their own. `Mapping` of mappings, made public with a type of entries, would save those
+// lines, but a parsed word is a value, and a match over it would pick the type of that trait, as the two below pick the call.
 #[derive(Clone, Copy)]
 pub enum Table {
     PmuMappings,

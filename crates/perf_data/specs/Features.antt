@@ -1,4 +1,5 @@
--- The names of the features: those of `enum` HEADER_ in perf's header.h, and those of simpleperf's record_file.h.
+-- The names of the features: those of `enum` HEADER_ in perf's header.h, and those of simpleperf's
+-- record_file_format.h.
 use Rattle.std.specs.Prelude.{ℕ, cond, List, [], ◌∷◌, Some, None, codes, Option, ◌==◌}
 use Rattle.std.specs.Borrow.{Bor}
 

@@ -72,8 +72,7 @@ pub fn cpu_id<'a, S: Store<'a>>(store: &S) -> Result<Option<&'a str>, Refusal>
 pub fn cmdline<'a, S: Store<'a>>(store: &S) -> Result<Option<StringList<'a>>, Refusal>
     ensures { answered to_come result ≡ question command_line (S.endian store.now) ((S.map store.now).at 11) }
 {
-    let Some(section) = section_of(store, Feature::CMDLINE.0) else {
-        return Ok(None);
-    };
-    Ok(Some(read_string_list(section)?))
+    section_of(store, Feature::CMDLINE.0)
+        .map(read_string_list)
+        .transpose()
 }

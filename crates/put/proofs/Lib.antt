@@ -1,3 +1,2 @@
 pub mod Overlays
-pub mod Lowest
 pub mod Chains

@@ -4,4 +4,4 @@
 
 mod writer;
 
-pub use writer::{Number, Writer};
+pub use writer::Writer;

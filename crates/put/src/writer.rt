@@ -1,7 +1,10 @@
 // A writer, which a buffer is lent to.
-ghost use Rattle.std.specs.Prelude.{◌≡◌, ℕ, ◌^◌, ◌<◌, List, length};
+ghost use Rattle.std.specs.Prelude.{◌≡◌, ◌^◌, ◌<◌, length};
 ghost use Rattle.wire.specs.Numbers.{bytes_of};
 ghost use Rattle.wire.specs.declared.order.ByteOrder.TheVariants.{Little};
+
+use std::convert::AsSlice;
+use wire::order::Number;
 
 // A lent buffer, and the place in it from which the next bytes are put. With an empty buffer a writer only counts.
 #[derive(Drop)]
@@ -12,18 +15,6 @@ pub struct Writer<'b> {
     // both by their types
     ghost room: { length out.now < 2 ^ 64 },
     ghost counts: { at < 2 ^ 64 },
-}
-
-// A number whose bytes can be put, the lowest first.
-// Kept: beside wire's `Number`, which reads. An array of its bytes has a length by its type, and a trait's constant cannot be an
-// array's length in a signature, so each type makes its own array here.
-pub trait Number: Copy {
-    ghost use Rattle.put.specs.Appends.{Appends};
-
-    ghost bytes: { Self → List ℕ };
-
-    fn put_to(self, w: &mut Writer<'_>)
-        ensures { Appends (bytes self) w.old w.new };
 }
 
 impl<'b> Writer<'b> {
@@ -64,32 +55,8 @@ impl<'b> Writer<'b> {
 
     // Writes a number, the lowest byte first.
     pub fn put_number<N: Number>(&mut self, n: N)
-        ensures { Appends (N.bytes n) self.old self.new }
+        ensures { Appends (bytes_of Little N.WIDTH (N.value n)) self.old self.new }
     {
-        n.put_to(self);
-    }
-}
-
-impl Number for u16 {
-    ghost bytes = { bytes_of Little 2 };
-
-    fn put_to(self, w: &mut Writer<'_>) {
-        w.put(&self.to_le_bytes());
-    }
-}
-
-impl Number for u32 {
-    ghost bytes = { bytes_of Little 4 };
-
-    fn put_to(self, w: &mut Writer<'_>) {
-        w.put(&self.to_le_bytes());
-    }
-}
-
-impl Number for u64 {
-    ghost bytes = { bytes_of Little 8 };
-
-    fn put_to(self, w: &mut Writer<'_>) {
-        w.put(&self.to_le_bytes());
+        self.put(n.bytes().as_slice());
     }
 }

@@ -28,7 +28,7 @@ use wire::refusal::Refusal;
 fn section_bytes<'a, S: Store<'a>>(store: &S, feature: Carried) -> &'a [u8]
     ensures { result.now ≡ bytes_in ((S.map store.now).at (number_of feature)) }
 {
-    store.section(feature.number() as u32).unwrap_or(&[])
+    store.section(u32::from(feature)).unwrap_or(&[])
 }
 
 // Writes the fact of a carried feature, as a head has it, and answers whether the feature is there. The rows serve the
@@ -74,7 +74,7 @@ pub fn put_fact<'a, S: Store<'a>>(
         | Carried::Arch
         | Carried::CpuDesc
         | Carried::CpuId => {
-            let text = feature_string(store, Feature(feature.number() as u32));
+            let text = feature_string(store, Feature(u32::from(feature)));
             put_answer(text, w)
         }
     }

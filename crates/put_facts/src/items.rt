@@ -5,7 +5,7 @@ ghost use Rattle.put_facts.specs.Items.{PutsItems, PutsCounted};
 use crate::told::Told;
 use put::Writer;
 
-// Kept: what is asked of an iterator here and below is what a `for` over any iterator asks, in the library's own words.
+// What is asked of an iterator here and below is what a `for` over any iterator asks, in the library's own words.
 
 // Writes all items, one after the other, and answers how many there are, by the low 32 bits of that number.
 pub(crate) fn put_items<T: Told, I: Iterator<Item = T>>(items: I, w: &mut Writer<'_>) -> u32

@@ -24,7 +24,7 @@ pub(crate) fn put_len(len: usize, w: &mut Writer<'_>)
 pub(crate) fn put_above(base: u16, n: usize, w: &mut Writer<'_>)
     ensures { Appends (u16 (base + n)) w.old w.new }
 {
-    w.put_number(((base as usize + n % SHORT_NUMBERS) % SHORT_NUMBERS) as u16);
+    w.put_number(((usize::from(base) + n % SHORT_NUMBERS) % SHORT_NUMBERS) as u16);
 }
 
 // A header text: its length and the text.

@@ -3,6 +3,7 @@ ghost use Rattle.std.specs.Prelude.{◌≡◌, true, IfSome, codes};
 ghost use Rattle.std.specs.Str.{bytes_eq};
 ghost use Rattle.replay.specs.Alike.{alike, is_equal, is_memory, is_rows, refuses_rows};
 
+use answers::question::Question;
 use std::fmt;
 
 #[derive(Clone, Copy, PartialEq, Eq, Debug)]
@@ -51,16 +52,21 @@ impl Case<'_> {
         self.ours == self.theirs
     }
 
+    fn asked(self) -> Option<Question> {
+        let (word, _) = self.question.split_once(' ')?;
+        word.parse::<Question>().ok()
+    }
+
     // A table's refusal for want of rows; no other question has one.
-    // Kept: a text, where a `Refusal` could be displayed: that takes memory, for want of which it fails, and the contract of
-    // `judge` says that it always answers.
+    // Kept: texts, and no `Refusal`, since the contract of `judge` names these three, byte for byte: of the numbers in ours, read
+    // from it, it would not follow that they stand there.
     fn rows_refusal(self) -> Option<&'static str>
         ensures { IfSome result (λ t. refuses_rows t.now ≡ true) }
     {
-        match self.question.split_once(' ')?.0 {
-            "pmu_mappings" => Some("refused 31 4 16 0"),
-            "meta_info" => Some("refused 31 4 129 0"),
-            "build_ids" => Some("refused 31 4 2 0"),
+        match self.asked()? {
+            Question::PmuMappings => Some("refused 31 4 16 0"),
+            Question::MetaInfo => Some("refused 31 4 129 0"),
+            Question::BuildIds => Some("refused 31 4 2 0"),
             _ => None,
         }
     }
@@ -86,9 +92,9 @@ impl Case<'_> {
     // The refusals that stand where the Rust asks for too much memory: no section holds so much.
     // Kept: as fronts of texts: with no offset at the end they are the text of no `Refusal`, which has one.
     fn refuses_count(self) -> bool {
-        match self.question.split_once(' ') {
-            Some(("pmu_mappings", _)) => self.ours.starts_with("refused 11 2 16 "),
-            Some(("cmdline", _)) => {
+        match self.asked() {
+            Some(Question::PmuMappings) => self.ours.starts_with("refused 11 2 16 "),
+            Some(Question::Cmdline) => {
                 self.ours.starts_with("refused 7 2 11 ")
                     || self.ours.starts_with("refused 9 2 11 ")
                     || self.ours.starts_with("refused 10 2 11 ")

@@ -33,7 +33,8 @@ impl<'a> SectionStore<'a> {
     }
 
     // A store that lacks every section.
-    // Kept: by a number that no section has, so that one definition is the map of either store.
+    // Kept: by a number that no section has. A store that `new` makes for such a number has none already, so an `Option` of a
+    // number and bytes would be a second way to say that there is none, and `section` and the map would have a case more.
     pub fn absent(order: ByteOrder) -> SectionStore<'a>
         ensures order { result.order ≡ order }
         ensures sections { LacksAll (features_of result) }

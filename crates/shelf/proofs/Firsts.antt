@@ -1,5 +1,5 @@
 -- The first place whose row passes a test.
-use Rattle.std.proofs.Common.{◌≡◌, ℕ, zero, suc, ◌+◌, ◌<◌, Bool, true, false, cond, ltb, List, [], ◌∷◌, length, get_or, Some, None, Option, refl, sym, ap, ◌∙◌, subst, ⊎_elim, add-one, arith}
+use Rattle.std.proofs.Common.{◌≡◌, ℕ, zero, suc, ◌+◌, ◌<◌, Bool, true, false, cond, ltb, List, [], ◌∷◌, length, get_or, Some, None, Option, refl, sym, ap, ◌∙◌, ⊎_elim, add-one, arith}
 use Rattle.std.proofs.lemmas.Bool.{cond-true, cond-false, cases_Bool, lt-ltb, le-ltb, ltb-true, ltb-false}
 use Rattle.std.specs.Option as options
 use Rattle.std.specs.List.{position, position_or_len}
@@ -76,6 +76,3 @@ pub first_found : {X : Type 0} (p : X → Bool) (rows : List X) (d : X) → Foun
 unfolding first_with
 first_found p [] d = λ j l. absurd (omega arith)
 first_found p (r ∷ rs) d = found_more p r rs d (first_with p rs) (first_found p rs d)
-
-pub found_at : {X : Type 0} (p : X → Bool) (rows : List X) (d : X) (i : ℕ) → first_with p rows ≡ Some i → (i < length rows) × (p (get_or rows i d) ≡ true)
-found_at p rows d i e = subst (Found p rows d) e (first_found p rows d)

@@ -1,12 +1,9 @@
 -- Heads that fit into the room for them.
-use Rattle.std.proofs.Common.{◌≡◌, ℕ, ◌-◌, ◌≤◌, min, true, false, ltb, List, ◌++◌, length, drop, replicate, Some, Ok, Err, Result, refl, sym, ap, ◌∙◌, ⊎_elim, arith}
-use Rattle.std.proofs.lemmas.List.{take_at, drop_at}
+use Rattle.std.proofs.Common.{◌≡◌, ℕ, ◌≤◌, min, true, false, ltb, List, length, Ok, Err, Result, sym, ap, ◌∙◌, ⊎_elim, arith}
 use Rattle.std.proofs.lemmas.Bool.{cases_Bool, ltb-false, cond-true, cond-false}
 use Rattle.wire.specs.Faults.{state_fault}
 use Rattle.wire.specs.declared.refusal.Fault.{Fault}
 use Rattle.facts.specs.Head.{fitted}
-use Rattle.shelf.specs.Rows.{row_of}
-use Rattle.shelf.specs.Calls.{fresh}
 
 -- what a head that fits is
 pub record Fitting (room : ℕ) (from : Result (List ℕ) Fault) (h : List ℕ) : Type 0 where
@@ -30,9 +27,3 @@ fitting room (Ok x) h f = ⊎_elim long short (cases_Bool (ltb (min room 1677721
         let same : x ≡ h = cc in
         let l = ltb-false (min room 16777216) (length x) e in
         record { is = r; within = omega (arith, ap length same); short = omega (arith, ap length same) }
-
--- the row of a new group, and that of a free strip
-pub fresh_row : (strip number : ℕ) (h : List ℕ) → row_of (Some (record { number = number; count = 1; len = length h })) (h ++ replicate (strip - length h) 0) ≡ fresh strip number h
-fresh_row strip number h =
-    ap (λ (b : List ℕ). record { number = number; count = 1; head = b; rest = drop (length h) (h ++ replicate (strip - length h) 0) }) (take_at h (replicate (strip - length h) 0) (length h) refl)
-    ∙ ap (λ (b : List ℕ). record { number = number; count = 1; head = h; rest = b }) (drop_at h (replicate (strip - length h) 0) (length h) refl)

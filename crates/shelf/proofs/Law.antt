@@ -44,7 +44,11 @@ module _ (speak : HeadsSpeak) where
   -- the head of a group speaks for what was filed into it
   speaks : (h : History) (c : Contents) (g i : ℕ) → InvOf h c → At c g i → SpeaksForAll (row_in c i).head g h
   speaks h c g i v a x f =
-      speak x.rows x.order x.features (row_in c i).head (v.heads i x a.held (subst (λ (u : ℕ). FiledIn x u h) (sym a.number) f))
+      let hd = (row_in c i).head in
+      let is : (z : Filing) → FiledIn z g h → HeadOf z hd = λ z w. v.heads i z a.held (subst (λ (u : ℕ). FiledIn z u h) (sym a.number) w) in (
+        speak x.rows x.order x.features hd (is x f),
+        (λ y w q. let to = speak y.rows y.order y.features hd (is y w) in to.answers q ∙ to.alike x.rows x.order x.features hd (is x f) refl q),
+      )
 
   -- what is answered by the place that a group has
   released_says : (h : History) (c : Contents) (g : ℕ) (a : Result (Unit {0}) Fault) (o : Option ℕ) → InvOf h c → Stands c g o → a ≡ release_at o → Says h (released g a)

@@ -1,17 +1,16 @@
 -- The rows of a shelf, by place.
-use Rattle.std.proofs.Common.{◌≡◌, ℕ, suc, ◌+◌, ◌*◌, ◌^◌, ◌<◌, ◌≤◌, Bool, true, not, ltb, List, length, get_or, count_by, take, drop, Some, None, Option, vec_items, vec_len, sym, refl, ap, ◌∙◌, subst, ⊎_elim, mul-le-mul_right, suc-mul, arith, rules}
+use Rattle.std.proofs.Common.{◌≡◌, ℕ, suc, ◌+◌, ◌*◌, ◌^◌, ◌<◌, ◌≤◌, Bool, not, List, length, get_or, count_by, take, drop, Some, None, Option, vec_items, vec_len, sym, refl, ap, ◌∙◌, subst, mul-le-mul_right, suc-mul, arith, rules}
 use Rattle.std.proofs.lemmas.List.FromFn.{length-map-range_with_len, get_or-map-range_with_len}
 use Rattle.std.proofs.lemmas.List.{get_or-take, length-take, length-take-le, take-take, places}
-use Rattle.std.proofs.lemmas.Bool.{and_parts, ltb-true, cases_lt, ne_eqb}
-use Rattle.std.specs.Str.{bytes_eq}
-use Rattle.std.specs.Option.{SomeIff, is_some, is_none}
+use Rattle.std.proofs.lemmas.Bool.{ne_eqb}
+use Rattle.std.specs.Option.{is_some, is_none}
 use Rattle.shelf.specs.declared.shelf.Group.{Group}
 use Rattle.shelf.specs.declared.shelf.Shelf.TheInside.{Inside}
 use Rattle.shelf.specs.Rows.{Row, row_at, row_of, strip_at, FitsStrip}
 use Rattle.shelf.specs.Contents.{Contents, row_in, blank}
-use Rattle.shelf.specs.Strips.{contents, Sound, next_number}
+use Rattle.shelf.specs.Strips.{contents, Sound}
 use Rattle.shelf.specs.Stands.{StandsAt}
-use Rattle.shelf.specs.Calls.{first_with, is_numbered, has_head}
+use Rattle.shelf.specs.Calls.{first_with, is_numbered}
 use Rattle.shelf.specs.Sizes.{held}
 use Rattle.shelf.proofs.Firsts.{first_same}
 use Rattle.shelf.proofs.Sizes.{count_same}
@@ -27,15 +26,6 @@ length-strip a k xs p = search (rules, places)
 -- the row that a place of the struct has
 abbrev pub row_standing : Inside → ℕ → Row
 row_standing s j = row_at s.strip s.groups (vec_items s.bytes) j
-
--- the number after the next
-pub next_is : (o : Option ℕ) (n : ℕ) → n < 2 ^ 32 → SomeIff o (n + 1 < 2 ^ 32) (n + 1) → next_number o ≡ n + 1
-next_is None n l f = ⊎_elim (λ e. absurd (f e)) (λ e. omega arith) (cases_lt (n + 1) (2 ^ 32))
-next_is (Some k) n l f = f.1
-
--- a row that has a head is not vacant
-pub head_held : (h : List ℕ) (r : Row) → has_head h r ≡ true → r.number ≡ 0 → ⊥
-head_held h r e z = omega (arith, ltb-true 0 r.number (and_parts (ltb 0 r.number) (bytes_eq r.head h) e).0)
 
 module _ (s : Inside) (c : Contents) (is : contents s ≡ c) where
   pub rows_length : length c.rows ≡ s.strips

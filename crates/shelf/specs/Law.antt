@@ -1,7 +1,8 @@
 -- The law of the shelf. It speaks of the calls that were made and of their answers, and of what a shelf shows.
 use Rattle.std.specs.Prelude.{◌≡◌, ℕ, ◌+◌, ◌-◌, ◌<◌, ◌≤◌, cond, ◌⊎◌, List, [], ◌∷◌, length, take, Ok, Err, ◌==◌}
 use Rattle.wire.specs.Faults.{state_fault}
-use Rattle.facts.specs.Laws.{Alike, Speaks}
+use Rattle.wire.specs.declared.order.ByteOrder.TheVariants.{Little}
+use Rattle.facts.specs.Laws.{head_sections, Alike, Speaks}
 use Rattle.shelf.specs.Contents.{Contents}
 use Rattle.shelf.specs.Calls.{refused, release_answer, count_answer, head_shown}
 use Rattle.shelf.specs.Histories.{Filing, Event, History, Ran}
@@ -62,8 +63,13 @@ SameFacts h =
 abbrev pub SpeaksFor : List ℕ → Filing → Type 0
 SpeaksFor head x = Speaks x.rows x.order x.features head
 
+-- The fifteen questions, put to the head with n rows, answer as the store did in its filing.
+abbrev pub AnswersFor : List ℕ → ℕ → Filing → Type 0
+AnswersFor head n x = Alike n Little (head_sections head) x.rows x.order x.features.at
+
+-- So it does for every store filed into its group, with as many rows as any of the group's filings had.
 abbrev pub SpeaksForAll : List ℕ → ℕ → History → Type 0
-SpeaksForAll head g h = (x : Filing) → FiledIn x g h → SpeaksFor head x
+SpeaksForAll head g h = (x : Filing) → FiledIn x g h → SpeaksFor head x × ((y : Filing) → FiledIn y g h → AnswersFor head y.rows x)
 
 -- 4. Held by count: what an answer says, by the calls before it
 

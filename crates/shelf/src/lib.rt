@@ -4,3 +4,5 @@
 pub mod client;
 pub mod laws;
 pub mod shelf;
+#[cfg(test)]
+mod tests;

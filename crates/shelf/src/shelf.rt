@@ -26,19 +26,23 @@ pub(crate) struct Held {
     group: Group,
 }
 
-const MOST_STRIPS: usize = 64;
+pub const MOST_STRIPS: usize = 64;
+
+pub const LONGEST_STRIP: usize = 65_536;
 
 // The bytes are cut into strips of one length, as many as they have room for, up to the most.
 #[derive(Drop)]
 pub struct Shelf {
     strip: usize,
     // Kept: `(bytes.len() / strip).min(MOST_STRIPS)` is this number too, but with a case of its own for a refused shelf, whose strip
-    // is 0 (`checked_div`, and 0 for none); and each look-up would divide again to know where the groups end.
+    // is 0 (`checked_div`, and 0 for none).
     strips: usize,
     // the number that the next new group gets, until they are used up
     next: Option<u32>,
     // The group of each strip that is not free.
-    // Kept: a `Vec` would need heap, which the library does not ask for; it keeps the caller's bytes and makes none.
+    // Kept: a `Vec` would need heap, which the library does not ask for; it keeps the caller's bytes and makes none. The kit's
+    // `ArrayVec` needs none and knows its length, but the length of this list never changes: what it has beside an array, calls
+    // that push and remove, would be one more crate for a field less.
     groups: [Option<Group>; MOST_STRIPS],
     bytes: Vec<u8>,
 }

@@ -11,6 +11,8 @@ use wire::refusal::Refusal;
 
 // Reads from the front of the bytes that are left of a record or a section. What it read is left no more; where it refuses,
 // nothing is said of what is left.
+// Kept: that order and size stay as they were is a clause of each reading, `SameRecord`. The type cannot say it of what is lent to
+// be changed, and one relation of both clauses, as `Appends` of put, would take each reading's definition as a parameter.
 #[derive(Clone, Copy)]
 pub struct Reader<'a> {
     pub(crate) order: ByteOrder,

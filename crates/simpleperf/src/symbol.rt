@@ -6,7 +6,7 @@ use crate::reader::Reader;
 use wire::refusal::Refusal;
 
 // A symbol. Its name lies in the section.
-#[derive(Clone, Copy)]
+#[derive(Clone, Copy, PartialEq, Eq)]
 pub struct SimpleperfSymbol<'a> {
     pub vaddr: u64,
     pub len: u32,

@@ -6,25 +6,30 @@
 use answers::answer;
 use anyhow::{Context, anyhow};
 use hexadecimal::decode;
-use image::store::Store;
 use perf_data::features::Feature;
 use section_store::SectionStore;
+use simpleperf::file::SimpleperfFileRecord;
 use simpleperf::questions::{symbol_table, symbol_tables};
 use simpleperf::tables::SymbolTables;
 use std::io::{BufRead, BufReader};
 use wire::order::ByteOrder;
 
+// Whether two records say the same of a file, but for what its type says.
+// Kept: by hand, and no derive: a record's symbols are equal where the walks over them give the same, wherever they lie.
+fn is_same(a: SimpleperfFileRecord<'_>, b: SimpleperfFileRecord<'_>) -> bool {
+    a.path == b.path
+        && a.file_type == b.file_type
+        && a.min_vaddr == b.min_vaddr
+        && a.symbol.eq(b.symbol)
+}
+
 // The records as they are asked for one by one: as many as the walk gives, and none past the last.
-fn agree<'a, S: Store<'a>>(store: &S, tables: SymbolTables<'_>) -> bool {
-    // Kept: `all` over the same pairs was tried, and the check gave no proof of it. Two fields tell which record it is, which is all
-    // that is asked here: a record has no `==`, since its lists are read as they are walked, and what it says is printed below.
-    for (k, file) in tables.enumerate() {
-        match symbol_table(store, k) {
-            Ok(Some(same)) if same.path == file.path && same.min_vaddr == file.min_vaddr => (),
-            _ => return false,
-        }
-    }
-    matches!(symbol_table(store, tables.count()), Ok(None))
+fn agree(store: &SectionStore<'_>, tables: SymbolTables<'_>) -> bool {
+    let ends = matches!(symbol_table(store, tables.count()), Ok(None));
+    ends && tables.enumerate().all(|(k, file)| match symbol_table(store, k) {
+        Ok(Some(asked)) => is_same(asked, file),
+        _ => false,
+    })
 }
 
 fn check_records(section: &[u8], order: ByteOrder) -> anyhow::Result<()> {
@@ -38,6 +43,7 @@ fn check_records(section: &[u8], order: ByteOrder) -> anyhow::Result<()> {
 }
 
 fn print_line(rt: &HostRuntime, line: &str) -> anyhow::Result<()> {
+    // Kept: two calls for the hexadecimal at a line's end, for the reason that mappings_cases has at its own.
     let (name, text) = line
         .split_once(" x")
         .context("a line is a byte order, a space, x and hexadecimal")?;

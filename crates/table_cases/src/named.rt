@@ -18,7 +18,7 @@ impl Kind for Named<'_> {
     ghost key = { λ kind row. name_of kind.section.now row };
 
     fn compare(&self, a: &Row, b: &Row) -> Ordering {
-        // Kept: the order of an `Option`, by hand: what is shown here is that a kind can go by another's, and `Texts` compares rows.
+        // Kept: by hand. Two keys as `Option`s have this order, but what is tested here is a kind that calls another's `compare`.
         match (a.number, b.number) {
             (0, 0) => Ordering::Equal,
             (0, _) => Ordering::Less,

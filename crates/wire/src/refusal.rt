@@ -11,8 +11,9 @@ pub const NO_FEATURE: u32 = 256;
 
 // The features that a case is always of: the command line, the clock data, the symbol records and the symbol tables of
 // the second format.
-// Kept: `Feature` of perf_data has these numbers too, but perf_data lies above this crate and answers by its refusals. Of
-// the thirty-six features that it names, refusals name four.
+// Kept: `Feature` of perf_data has these numbers too, but perf_data lies above this crate, and `Feature` has its name and
+// its place from the Rust crate. Moved down here it would be no plainer: `fault_of` and the contracts of every layer go by
+// feature numbers, so each use of the type would say `.0`.
 const CMDLINE: u32 = 11;
 
 const CLOCK_DATA: u32 = 29;

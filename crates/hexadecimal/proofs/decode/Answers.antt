@@ -1,11 +1,31 @@
-use Rattle.std.proofs.Common.{◌≤◌, length, vec_items, sym, ◌∙◌, arith}
-use Rattle.std.proofs.lemmas.List.{take_rest}
-use Rattle.std.proofs.lemmas.Bool.{ltb-true, ltb-false}
-use Rattle.hexadecimal.proofs.Pairs.{pair_more}
+use Rattle.std.proofs.Common.{◌*◌, ◌+◌, drop, vec_items, sym, ap, ◌∙◌, arith}
+use Rattle.std.proofs.lemmas.Bool.{eqb-false}
+use Rattle.hexadecimal.specs.Hex.{bytes_of, before}
+use Rattle.hexadecimal.proofs.Pairs.{behind, behind_nothing, behind_more, before-not_high, before-not_low, odd_none, pair_read}
 use Rattle.hexadecimal.proofs.decode.Goals as goal
+use Rattle.hexadecimal.proofs.decode.Goals.{in_default-via-in-Some+in_default, in_default-via-in_default}
 
-pub loop-rest-preserved : goal.loop-rest-preserved
-loop-rest-preserved c =
-    let long : 2 ≤ length c.loop-rest.rest.now = omega (arith, ltb-true, ltb-false) in
-    pair_more (vec_items c.loop-rest.bytes) _ c.loop-rest.rest.now _ c.in-Some-Some.high c.in-Some-Some.low long (take_rest c.loop-rest.rest.now 2) (sym c.in-Some-Some.ensures) (sym c.in-Some-Some.ensures') c.in_ok-push.ensures.items
-    ∙ c.loop-rest.invariant
+pub returns-then-not-is_empty : goal.returns-then-not-is_empty
+returns-then-not-is_empty c =
+    let some = eqb-false _ 0 (sym c.is_empty.ensures ∙ c.if-not-is_empty.true) in
+    sym (odd_none c.args.text.now (omega (arith, some, c.as_chunks.ensures.back_len)))
+
+pub loop-high-init : goal.loop-high-init
+loop-high-init c =
+    ap (λ t. behind t (bytes_of c.args.text.now)) c.new-bytes.ensures.items ∙ behind_nothing (bytes_of c.args.text.now)
+
+pub returns-in_default : goal.returns-in_default
+returns-in_default c =
+    let pair = pair_read c.args.text.now c.as_chunks.result.0.now c.loop-high.high-index c.loop-high-test.true c.as_chunks.ensures.front c.as_chunks.ensures.front_len in
+    ap (behind (vec_items c.loop-high.bytes)) (sym (elim c.in_default.branch [
+      | in_default-via-in-Some+in_default w ↦ pair ∙ before-not_low _ _ _ (sym c.digit-in-loop-high.ensures ∙ w.in_default.is-1)
+      | in_default-via-in_default w ↦ pair ∙ before-not_high _ _ _ (sym c.digit.ensures ∙ w.in_default.is-0)
+    ])) ∙ c.loop-high.invariant
+
+pub loop-high-preserved : goal.loop-high-preserved
+loop-high-preserved c =
+    let more = bytes_of (drop ((c.loop-high.high-index + 1) * 2) c.args.text.now) in
+    let pair = pair_read c.args.text.now c.as_chunks.result.0.now c.loop-high.high-index c.loop-high-test.true c.as_chunks.ensures.front c.as_chunks.ensures.front_len in
+    behind_more (vec_items c.loop-high.bytes) _ more _ _ c.in_ok-push.ensures.items
+    ∙ (ap (behind (vec_items c.loop-high.bytes)) ((λ i. before (c.in-Some-Some.ensures i) (c.in-Some-Some.ensures' i) more) ∙ sym pair)
+    ∙ c.loop-high.invariant)

@@ -18,6 +18,11 @@ fn fill_strip(strip: &mut [u8], front: &[u8])
 }
 
 impl Shelf {
+    // Kept: three facts of a shelf as it stands are clauses: a group stands at its place (`recount`, and `head_at` in
+    // places.rt); there is such a place (`put`, `clear`, `keep`); a head fits its strip (`put`, `keep`, and `settle` in
+    // filing.rt). `Held`, or a type for a place, could carry the first two only with a borrow of the shelf, and the shelf is
+    // changed at the place. How long a strip is, each shelf says for itself, so a type for heads cannot say that one fits.
+
     // A group that is held has this count.
     pub(crate) fn recount(&mut self, held: Held, count: u32)
         requires { StandsAt self.old held.place held.group }
@@ -28,10 +33,6 @@ impl Shelf {
             ..held.group
         });
     }
-
-    // Kept: that there is such a place, and that a head fits its strip, are clauses here and of `clear` and `keep`; the second is
-    // one of `settle` too. A type for a place could carry the first only with a borrow of the shelf, and the shelf is changed at
-    // the place. How long a strip is, each shelf says for itself, so a type for heads cannot say that one fits.
 
     // A place gets a group or none, with `head` at the front of its strip and 0 behind.
     fn put(&mut self, i: usize, group: Option<Group>, head: &[u8])

@@ -1,13 +1,10 @@
 // Opening: there is a shelf in every case.
 ghost use Rattle.std.specs.Prelude.{◌≡◌, true, vec_len};
-ghost use Rattle.facts.specs.Head.{outcome};
-ghost use Rattle.shelf.specs.Calls.{in_bounds, empty as empty_of, without as without_strips, open_answer, opening as opening_of};
+ghost use Rattle.shelf.specs.Calls.{in_bounds, empty as empty_of, without as without_strips};
 
-use super::{MOST_STRIPS, Shelf};
+use super::{LONGEST_STRIP, MOST_STRIPS, Shelf};
 
 const SHORTEST_STRIP: usize = 5;
-
-const LONGEST_STRIP: usize = 65_536;
 
 // Whether the values handed in are within their bounds.
 pub(crate) fn in_bounds(strip: usize, first: u32, room: usize) -> bool

@@ -31,6 +31,8 @@ impl Shelf {
     }
 
     // The group at a place, if it has this number.
+    // Kept: this and `place_of` once more below, for a head. One walk over any test would have what its closure answers as a premise
+    // of the walk and as a proof at both calls; what the two walks share is proved once, for any test, as it is (`finds`).
     fn numbered_at(&self, i: usize, number: u32) -> Option<Held>
         ensures { PassesAt self.now (has_number number) i result }
     {

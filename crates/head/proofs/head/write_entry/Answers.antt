@@ -27,8 +27,8 @@ returns-clause-wrote g c =
     let r : Answer = answer (length c.args.rows.now) o m.at c.args.feature in
     let b = body r (small (length c.args.rows.now) o m c.args.feature) (answer_is r c.if-not-is_there.false c.in_ok-is_there.ensures.writes) in
     let low : c.at-start.result + 6 < 2 ^ 40 = omega (arith, c.at-start.ensures) in
-    entry_some c.args.feature r c.at-start.result (c.at-start.result + 6) c.at-end.result c.number.result (c.at-end.result - (c.at-start.result + 6))
-    b c.at-start.ensures refl low c.go_to.ensures c.at-end.ensures c.go_to-2.ensures c.number.ensures c.put_number.ensures refl c.put_number-2.ensures c.go_to-3.ensures
+    entry_some c.args.feature r c.at-start.result (c.at-start.result + 6) c.at-end.result c.from.result (c.at-end.result - (c.at-start.result + 6))
+    b c.at-start.ensures refl low c.go_to.ensures c.at-end.ensures c.go_to-2.ensures c.from.ensures c.put_number.ensures refl c.put_number-2.ensures c.go_to-3.ensures
 
 pub returns-clause-short : goal.returns-clause-short
 returns-clause-short g c =

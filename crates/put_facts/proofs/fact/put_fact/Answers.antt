@@ -118,5 +118,5 @@ returns-in-Hostname-clause-writes g c =
     let o = g.S.Store.endian c.args.store.now in
     let at = (g.S.Store.map c.args.store.now).at in
     writes_same
-    (text_at n o at c.args.feature c.number.result c.feature_string-text.result (one-text c.args.feature c.in-Hostname.is) c.number.ensures c.feature_string-text.ensures)
+    (text_at n o at c.args.feature c.from.result c.feature_string-text.result (one-text c.args.feature c.in-Hostname.is) c.from.ensures c.feature_string-text.ensures)
     c.put_answer-in-Hostname.ensures

@@ -9,7 +9,6 @@ use Rattle.mappings.specs.MetaInfo.{paired, pair_row, pieces, pieces_from}
 use Rattle.mappings.proofs.Joins.{joined, joined_none, joined_more, fault_made, table_made}
 use Rattle.mappings.proofs.Pieces.{pieces_here}
 use Rattle.mappings.proofs.Pairs.{pairs-none, pairs-fault, pair_told}
-use Rattle.mappings.proofs.MetaTied.{info_tied}
 use Rattle.mappings.proofs.meta_info.MetaInfoMapping.read.Goals as goal
 
 pub loop-row-init : goal.loop-row-init
@@ -44,9 +43,6 @@ returns-in_err-row-clause-made c =
     (c.loop-row.invariant.2 ∙ ap (joined c.loop-row.invariant.0) (pairs-fault pair_row (pieces_from s c.loop-row.at) (fault_of e) (sym c.in_err-row.ensures)))
     (p.1 ∙ ap Err p.2)
 
-pub returns-in_err-row-clause-tied : goal.returns-in_err-row-clause-tied
-returns-in_err-row-clause-tied c = info_tied c.args.section.bytes.now
-
 pub returns-clause-made : goal.returns-clause-made
 returns-clause-made c =
     let s = c.args.section.bytes.now in
@@ -59,6 +55,3 @@ returns-clause-made c =
     ∙ ap Ok (append-nil so_far))
     (let done = c.finish.ensures.holds (tabled texts (key_part s) so_far) (subst (λ key. Holds (tabled texts key so_far) fill.used fill.rows.now) kind c.loop-row.invariant.1) in
     search rules)
-
-pub returns-clause-tied : goal.returns-clause-tied
-returns-clause-tied c = info_tied c.args.section.bytes.now

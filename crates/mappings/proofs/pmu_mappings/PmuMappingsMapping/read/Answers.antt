@@ -7,7 +7,6 @@ use Rattle.table.specs.Table.{tabled}
 use Rattle.mappings.specs.PmuMappings.{name_row, key_of, items, items_in, given_before}
 use Rattle.mappings.proofs.Joins.{joined, fault_made, table_made}
 use Rattle.mappings.proofs.PmuItems.{items-next, items-none, item_shorter, given-next}
-use Rattle.mappings.proofs.PmuTied.{names_tied}
 use Rattle.mappings.proofs.pmu_mappings.PmuMappingsMapping.read.Goals as goal
 use Rattle.mappings.proofs.pmu_mappings.PmuMappingsMapping.read.Goals.{in-Some-row, in_default-row}
 
@@ -54,9 +53,6 @@ returns-in_err-item-clause-made c =
     (c.loop.invariant.2 ∙ ap (joined c.loop.invariant.0) (items-next name_row o (length s) _ c.loop.rest.now _ (omega arith) (sym c.in_err-item.ensures)))
     (p.1 ∙ ap Err p.2)
 
-pub returns-in_err-item-clause-tied : goal.returns-in_err-item-clause-tied
-returns-in_err-item-clause-tied c = names_tied c.args.section.bytes.now c.args.section.order
-
 pub returns-clause-made : goal.returns-clause-made
 returns-clause-made c =
     let o = c.args.section.order in
@@ -65,6 +61,3 @@ returns-clause-made c =
     table_made numbers key_of (items name_row o s) _ so_far c.finish.result
     (c.loop.invariant.2 ∙ ap (joined so_far) (items-none name_row o (length s) _ c.loop.rest.now (omega arith)) ∙ ap Ok (append-nil so_far))
     (let done = c.finish.ensures.holds (tabled numbers key_of so_far) c.loop.invariant.1 in search rules)
-
-pub returns-clause-tied : goal.returns-clause-tied
-returns-clause-tied c = names_tied c.args.section.bytes.now c.args.section.order

@@ -1,4 +1,4 @@
-use Rattle.std.proofs.Common.{◌≡◌, ℕ, ◌-◌, ◌<◌, ◌∷◌, sym, ap, ◌∙◌, arith}
+use Rattle.std.proofs.Common.{◌≡◌, ◌-◌, ◌<◌, ◌∷◌, sym, ap, ◌∙◌, arith}
 use Rattle.perf_data.specs.Texts.{readable}
 use Rattle.perf_data.proofs.Reading.{read_ok, read_fault, readable-none, readable-more, readable_stop}
 use Rattle.perf_data.proofs.string_list.StringListIterator.next.Goals as goal
