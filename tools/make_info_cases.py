@@ -39,6 +39,13 @@ HAND = [
     ("5052480100" "130000000000", "head image, little-endian\n 19 STAT (0 bytes): of perf stat\n"),
     # processors, 4 of 8 online
     ("5052480100" "070008000000" "0800000004000000", "head image, little-endian\n  7 NRCPUS (8 bytes): 4 online, 8 available\n"),
+    # an empty section of a number without a name, which in a recording through a pipe is perf's end mark, and one of a byte
+    ("50455246494c4532" "1000000000000000" "5000000000001000" "2000000000000000", "pipe image, little-endian\n 32 end mark (0 bytes)\n"),
+    ("50455246494c4532" "1000000000000000" "5000000000001100" "2000000000000000" "61", "pipe image, little-endian\n 32 unknown (1 bytes)\n"),
+    (
+        "50455246494c4532" "6800000000000000" + "00" * 24 + "6800000000000000" + "00" * 24 + "0000000001000000" + "00" * 40,
+        "file image, little-endian\n 32 unknown (0 bytes)\n",
+    ),
     # another version, an entry that is cut short, one that no head carries, and no image at all
     ("5052480200", "refused 2 256 0\n"),
     ("5052480100" "130001000000", "refused 17 256 5\n"),

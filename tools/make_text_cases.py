@@ -9,7 +9,7 @@ ill-formed subpart.
 The texts: for each row of the Unicode Standard's Table 3-7 and each byte of it the first and last of its range, one below
 and one above, the other bytes at the low and at the high end of theirs; each row cut off, at the end of a text and before
 another character; overlong forms, surrogates and numbers above 10FFFF; every first byte alone and before 80; the standard's
-own examples of replacements.
+own examples of replacements; sequences, whole and broken, in a run of ASCII at the ends of its blocks.
 
 Usage: python3 tools/make_text_cases.py, from the top of the repository.
 """
@@ -88,6 +88,14 @@ def texts():
         yield bytes([byte, 0x80])
     for line in SINGLE:
         yield bytes.fromhex(line)
+    yield from runs()
+
+
+def runs():
+    for before in (7, 8, 30, 31, 32, 33, 63, 64):
+        for inner in ("é".encode(), "€".encode(), "😀".encode(), b"\xC3", b"\xE2\x82", b"\xF0\x9F\x98", b"\x80"):
+            for after in (0, 1, 40):
+                yield b"a" * before + inner + b"b" * after
 
 
 def hexadecimal(text):

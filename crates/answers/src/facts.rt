@@ -1,4 +1,6 @@
 // Answers that are numbers, and that a section is there.
+ghost use Rattle.answers.specs.Texts.{nr_cpus_text, total_mem_text, sample_time_range_text, clock_frequency_text, compression_info_text, clock_data_text, present_text};
+
 use crate::told::Told;
 use fixed_facts::feature_sections::{
     ClockData, ClockFrequency, CompressionInfo, NrCpus, SampleTimeRange, TotalMem,
@@ -6,6 +8,8 @@ use fixed_facts::feature_sections::{
 use std::alloc::AllocError;
 
 impl Told for NrCpus {
+    ghost text = { nr_cpus_text };
+
     fn write(self, out: &mut String) -> Result<(), AllocError> {
         write!(
             out,
@@ -16,12 +20,16 @@ impl Told for NrCpus {
 }
 
 impl Told for TotalMem {
+    ghost text = { total_mem_text };
+
     fn write(self, out: &mut String) -> Result<(), AllocError> {
         write!(out, "numbers {}", self.kilobytes)
     }
 }
 
 impl Told for SampleTimeRange {
+    ghost text = { sample_time_range_text };
+
     fn write(self, out: &mut String) -> Result<(), AllocError> {
         write!(
             out,
@@ -32,12 +40,16 @@ impl Told for SampleTimeRange {
 }
 
 impl Told for ClockFrequency {
+    ghost text = { clock_frequency_text };
+
     fn write(self, out: &mut String) -> Result<(), AllocError> {
         write!(out, "numbers {}", self.ns_per_tick)
     }
 }
 
 impl Told for CompressionInfo {
+    ghost text = { compression_info_text };
+
     fn write(self, out: &mut String) -> Result<(), AllocError> {
         write!(
             out,
@@ -48,6 +60,8 @@ impl Told for CompressionInfo {
 }
 
 impl Told for ClockData {
+    ghost text = { clock_data_text };
+
     fn write(self, out: &mut String) -> Result<(), AllocError> {
         write!(
             out,
@@ -62,6 +76,8 @@ impl Told for ClockData {
 pub struct Present;
 
 impl Told for Present {
+    ghost text = { λ _. present_text };
+
     fn write(self, out: &mut String) -> Result<(), AllocError> {
         write!(out, "present")
     }

@@ -1,7 +1,11 @@
 // Answers one question about a feature section, in text. A question is QUESTION ORDER ROWS SECTION, as docs/ASK.md has it.
 #![tactic(auto)]
 
-ghost use Rattle.std.specs.Prelude.{◌≡◌, IfOk, vec_len};
+ghost use Rattle.std.specs.Prelude.{◌≡◌, ◌++◌, IfOk, OnOk, length, vec_len};
+ghost use Rattle.std.specs.String.{string_bytes};
+ghost use Rattle.hexadecimal.specs.Hex.{items};
+ghost use Rattle.answers.specs.Lines.{line_text};
+ghost use Rattle.answers.specs.Read.{IsAnswer};
 
 mod facts;
 mod line;
@@ -12,7 +16,6 @@ mod symbols;
 mod texts;
 mod told;
 
-use build_ids::builds::Builds;
 use dso_key::dso_key::DsoKey;
 use facts::Present;
 use fixed_facts::perf_file::{
@@ -30,8 +33,6 @@ use texts::write_shown;
 use told::write_answer;
 
 // No question asks for more rows (docs/ASK.md).
-// Kept: desk and head_cases have a limit of as many rows, each its own: a desk's is that of docs/SHELF.md, and the test's is how
-// far its lines go. Either can change alone.
 pub const MOST_ROWS: u32 = 65_536;
 
 // Rows for every question, made once and lent to one after the other.
@@ -41,13 +42,16 @@ pub fn all_rows(heap: Global) -> Result<Vec<Row>, AllocError>
     vec![in heap; Row::BLANK; MOST_ROWS as usize]
 }
 
-fn write_table<T: Table>(out: &mut String, table: T, rows: &mut [Row]) -> Result<(), AllocError> {
+fn write_table<T: Table>(out: &mut String, table: T, rows: &mut [Row]) -> Result<(), AllocError>
+    ensures { OnOk result (string_bytes out.new ≡ string_bytes out.old ++ T.table_text table (length rows.old)) }
+{
     let used = table.read(rows);
     write_answer(out, used_rows(used, table, rows))
 }
 
-fn write_line(out: &mut String, line: &Line, rows: &mut [Row]) -> Result<(), AllocError> {
-    // Kept: a match by question. The answers are of many types, so a table of closures would hold the calls that the arms make.
+fn write_line(out: &mut String, line: &Line, rows: &mut [Row]) -> Result<(), AllocError>
+    ensures { OnOk result (string_bytes out.new ≡ string_bytes out.old ++ line_text line.now.question line.now.order line.now.number (length rows.old) (items line.now.section)) }
+{
     match line.question {
         Question::Hostname => write_answer(out, hostname(&line.store(Feature::HOSTNAME))),
         Question::OsRelease => write_answer(out, os_release(&line.store(Feature::OSRELEASE))),
@@ -87,13 +91,7 @@ fn write_line(out: &mut String, line: &Line, rows: &mut [Row]) -> Result<(), All
                 rows,
             )
         }
-        Question::BuildIds => {
-            let store = line.store(Feature::BUILD_ID);
-            let builds = Builds {
-                section: line.bytes(),
-            };
-            write_table(out, BuildTable { store, builds }, rows)
-        }
+        Question::BuildIds => { write_table(out, BuildTable(line.store(Feature::BUILD_ID)), rows) }
         Question::SymbolTables => write_answer(
             out,
             symbol_tables(&line.store(Feature::SIMPLEPERF_FILE)),
@@ -104,7 +102,9 @@ fn write_line(out: &mut String, line: &Line, rows: &mut [Row]) -> Result<(), All
 }
 
 // The answer to a question; the rows are for its table, as many of them as it asks for.
-pub fn answer(heap: Global, question: &str, rows: &mut [Row]) -> Result<String, AllocError> {
+pub fn answer(heap: Global, question: &str, rows: &mut [Row]) -> Result<String, AllocError>
+    ensures { IfOk result (λ text. IsAnswer question.now (length rows.old) (string_bytes text)) }
+{
     let mut out = String::new(heap);
     match Line::read(heap, question) {
         Ok(line) => {

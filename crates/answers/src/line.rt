@@ -1,4 +1,14 @@
 // A line, taken apart: QUESTION ORDER ROWS SECTION, where `detect` has the misc in the place of the rows.
+ghost use Rattle.std.specs.Prelude.{◌≡◌, ◌≤◌, ◌%◌, ℕ, List, [], MatchResult, Option};
+ghost use Rattle.wire.specs.declared.order.ByteOrder.{ByteOrder as Order};
+ghost use Rattle.answers.specs.declared.line.Line.{Line as Words};
+ghost use Rattle.dso_key.specs.Modes.{mode_of};
+ghost use Rattle.hexadecimal.specs.Hex.{items};
+ghost use Rattle.mappings.specs.Tables.{bytes_in};
+ghost use Rattle.section_store.specs.Sections.{features_of};
+ghost use Rattle.answers.specs.Lines.{short_section};
+ghost use Rattle.answers.specs.Read.{order_word, IsNumberWord, IsSectionWord, IsLine, IsBad, first_word, other_words};
+
 use crate::MOST_ROWS;
 use crate::question::{Question, UnknownQuestion};
 use dso_key::cpu_mode::CpuMode;
@@ -9,13 +19,12 @@ use std::alloc::{AllocError, Global};
 use std::num::ParseIntError;
 use wire::order::ByteOrder;
 
+// A line's words.
 #[derive(Drop)]
 pub struct Line {
     pub question: Question,
     order: ByteOrder,
     // The rows that are lent or, for `detect`, the misc.
-    // Kept: a number. It is one word, read alike for every question; an enum of the two would be matched below once for the rows
-    // and once for the misc, each time with an answer made up for the other.
     number: u32,
     section: Option<Vec<u8>>,
 }
@@ -29,6 +38,10 @@ pub enum LineError {
 }
 
 impl From<AllocError> for LineError {
+    ghost use Rattle.answers.specs.declared.line.LineError.TheVariants.{Memory};
+
+    ghost from_gives = { λ error e. e ≡ Memory error };
+
     fn from(error: AllocError) -> LineError {
         LineError::Memory(error)
     }
@@ -46,9 +59,17 @@ impl From<ParseIntError> for LineError {
     }
 }
 
-// Kept: the words of a line are `le` and `be` (docs/ASK.md), and those that an order is read from by FromStr are others,
-// `little` and `big`.
-fn order_of(word: &str) -> Result<ByteOrder, LineError> {
+// Two words, with a space between them.
+fn pair(words: &str) -> Result<(&str, &str), LineError>
+    ensures { MatchResult result (λ p. (p.0.now ≡ first_word words.now) × (p.1.now ≡ other_words words.now)) (λ _. other_words words.now ≡ []) }
+{
+    words.split_once(' ').ok_or(LineError::Bad)
+}
+
+// An order is read from other words by its FromStr.
+fn order_of(word: &str) -> Result<ByteOrder, LineError>
+    ensures { MatchResult result (λ order. word.now ≡ order_word order) (λ _. (order : Order) → word.now ≡ order_word order → ⊥) }
+{
     match word {
         "le" => Ok(ByteOrder::Little),
         "be" => Ok(ByteOrder::Big),
@@ -57,7 +78,9 @@ fn order_of(word: &str) -> Result<ByteOrder, LineError> {
 }
 
 // The number in the place of the rows.
-fn number_of(word: &str) -> Result<u32, LineError> {
+fn number_of(word: &str) -> Result<u32, LineError>
+    ensures { MatchResult result (IsNumberWord word.now) (λ _. (number : ℕ) → ¬ (IsNumberWord word.now number)) }
+{
     let number = word.parse::<u32>()?;
     if number > MOST_ROWS {
         return Err(LineError::Bad);
@@ -65,7 +88,9 @@ fn number_of(word: &str) -> Result<u32, LineError> {
     Ok(number)
 }
 
-fn section_of(heap: Global, word: &str) -> Result<Option<Vec<u8>>, LineError> {
+fn section_of(heap: Global, word: &str) -> Result<Option<Vec<u8>>, LineError>
+    ensures { MatchResult result (λ section. IsSectionWord word.now (items section)) (λ e. IsBad e → (section : Option (List ℕ)) → ¬ (IsSectionWord word.now section)) }
+{
     if word == "-" {
         return Ok(None);
     }
@@ -75,10 +100,12 @@ fn section_of(heap: Global, word: &str) -> Result<Option<Vec<u8>>, LineError> {
 }
 
 impl Line {
-    pub(crate) fn read(heap: Global, text: &str) -> Result<Line, LineError> {
-        let (question, rest) = text.split_once(' ').ok_or(LineError::Bad)?;
-        let (order, rest) = rest.split_once(' ').ok_or(LineError::Bad)?;
-        let (number, section) = rest.split_once(' ').ok_or(LineError::Bad)?;
+    pub(crate) fn read(heap: Global, text: &str) -> Result<Line, LineError>
+        ensures { MatchResult result (IsLine text.now) (λ e. IsBad e → (line : Words) → ¬ (IsLine text.now line)) }
+    {
+        let (question, rest) = pair(text)?;
+        let (order, rest) = pair(rest)?;
+        let (number, section) = pair(rest)?;
         Ok(Line {
             question: question.parse::<Question>()?,
             order: order_of(order)?,
@@ -88,24 +115,32 @@ impl Line {
     }
 
     // How many rows a question for a table is lent.
-    pub(crate) fn rows(&self) -> usize {
+    pub(crate) fn rows(&self) -> usize
+        ensures { result ≡ self.now.number }
+    {
         self.number as usize
     }
 
     // The mode of a question for a key.
-    // Kept: the lowest bits by hand. `of_misc(self.number as u16)` was tried, and the check refuses the cast: 65,536 may stand
-    // here, and a cast has to fit.
-    pub(crate) fn cpu_mode(&self) -> CpuMode {
+    // `of_misc` takes a u16, and 65,536 may stand here.
+    pub(crate) fn cpu_mode(&self) -> CpuMode
+        ensures { result ≡ mode_of (self.now.number % 8) }
+    {
         CpuMode::from(self.number % 8)
     }
 
     // The section's bytes; none where it is absent.
-    pub(crate) fn bytes(&self) -> &[u8] {
+    pub(crate) fn bytes(&self) -> &[u8]
+        ensures { result.now ≡ bytes_in (items self.now.section) }
+    {
         self.section.as_deref().unwrap_or(&[])
     }
 
     // The section, as that of a feature; or a store with none.
-    pub(crate) fn store(&self, feature: Feature) -> SectionStore<'_> {
+    pub(crate) fn store(&self, feature: Feature) -> SectionStore<'_>
+        ensures order { result.order ≡ self.now.order }
+        ensures section { feature.0 ≤ 255 → (features_of result).at feature.0 ≡ short_section (items self.now.section) }
+    {
         match &self.section {
             Some(bytes) => SectionStore::new(self.order, feature.0, bytes),
             None => SectionStore::absent(self.order),

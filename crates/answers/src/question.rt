@@ -1,6 +1,7 @@
 // The questions that a line can ask.
 use std::str::FromStr;
 
+// A question, by its word.
 #[derive(Clone, Copy, PartialEq, Eq, Debug)]
 pub enum Question {
     Hostname,
@@ -30,7 +31,11 @@ pub enum Question {
 pub struct UnknownQuestion;
 
 impl FromStr for Question {
+    ghost use Rattle.answers.specs.Questions.{ReadsQuestion};
+
     type Err = UnknownQuestion;
+
+    ghost from_str_gives = { ReadsQuestion };
 
     fn from_str(word: &str) -> Result<Question, UnknownQuestion> {
         Ok(match word {

@@ -1,4 +1,11 @@
 // Symbol tables.
+ghost use Rattle.std.specs.Prelude.{◌≡◌, ℕ, List, ◌++◌, OnOk, map};
+ghost use Rattle.std.specs.String.{string_bytes};
+ghost use Rattle.std.specs.Fmt.{decimal};
+ghost use Rattle.simpleperf.specs.Answers.{file_of, files_of, info_of, symbol_of, symbols_of};
+ghost use Rattle.simpleperf.specs.Lists.{to_come};
+ghost use Rattle.answers.specs.Texts.{joined, info_text, symbol_text, symbols_text, file_text, files_text};
+
 use crate::told::Told;
 use hexadecimal::Hex;
 use simpleperf::file::SimpleperfFileRecord;
@@ -12,16 +19,18 @@ use std::alloc::AllocError;
 fn write_list<'a, K: Listed<'a>>(
     out: &mut String,
     mut items: ItemList<'a, K>,
-    mark: char,
+    mark: &str,
 ) -> Result<(), AllocError>
 where
     K::Item: Told,
+    ensures { OnOk result ((given : List K.Item) × (map K.value given ≡ to_come K.reading items.entry) × (string_bytes out.new ≡ string_bytes out.old ++ joined mark.now (map K.Item.text given))) }
 {
-    if let Some(first) = items.next() {
-        first.write(out)?;
-    }
+    let Some(first) = items.next() else {
+        return Ok(());
+    };
+    first.write(out)?;
     for item in items {
-        out.push(mark)?;
+        out.push_str(mark)?;
         item.write(out)?;
     }
     Ok(())
@@ -29,6 +38,8 @@ where
 
 // An offset in a list of them.
 impl Told for u64 {
+    ghost text = { decimal };
+
     fn write(self, out: &mut String) -> Result<(), AllocError> {
         write!(out, "{self}")
     }
@@ -37,12 +48,14 @@ impl Told for u64 {
 fn write_info(
     out: &mut String,
     info: Option<SimpleperfTypeSpecificInfo<'_>>,
-) -> Result<(), AllocError> {
+) -> Result<(), AllocError>
+    ensures { OnOk result (string_bytes out.new ≡ string_bytes out.old ++ info_text (info_of info.entry)) }
+{
     match info {
         None => write!(out, "-"),
         Some(SimpleperfTypeSpecificInfo::SimpleperfDexFileInfo(dex)) => {
             write!(out, "dex=")?;
-            write_list(out, dex.dex_file_offset, ',')
+            write_list(out, dex.dex_file_offset, ",")
         }
         Some(SimpleperfTypeSpecificInfo::ElfFile(elf)) => {
             write!(out, "elf={}", elf.file_offset_of_min_vaddr)
@@ -54,21 +67,27 @@ fn write_info(
 }
 
 impl Told for SimpleperfSymbol<'_> {
+    ghost text = { λ symbol. symbol_text (symbol_of symbol) };
+
     fn write(self, out: &mut String) -> Result<(), AllocError> {
         let name = Hex(self.name.as_bytes());
         write!(out, "{},{},x{name}", self.vaddr, self.len)
     }
 }
 
-fn write_symbols(out: &mut String, symbols: SymbolList<'_>) -> Result<(), AllocError> {
+fn write_symbols(out: &mut String, symbols: SymbolList<'_>) -> Result<(), AllocError>
+    ensures { OnOk result (string_bytes out.new ≡ string_bytes out.old ++ symbols_text (symbols_of symbols.entry)) }
+{
     let mut ahead = symbols;
-    if ahead.next().is_none() {
+    let Some(_) = ahead.next() else {
         return write!(out, "-");
-    }
-    write_list(out, symbols, ';')
+    };
+    write_list(out, symbols, ";")
 }
 
-fn write_file(out: &mut String, file: SimpleperfFileRecord<'_>) -> Result<(), AllocError> {
+fn write_file(out: &mut String, file: SimpleperfFileRecord<'_>) -> Result<(), AllocError>
+    ensures { OnOk result (string_bytes out.new ≡ string_bytes out.old ++ file_text (file_of file.entry)) }
+{
     let path = Hex(file.path.as_bytes());
     let file_type = u32::from(file.file_type);
     write!(out, " x{path}:{file_type}:{}:", file.min_vaddr)?;
@@ -78,6 +97,8 @@ fn write_file(out: &mut String, file: SimpleperfFileRecord<'_>) -> Result<(), Al
 }
 
 impl Told for SymbolTables<'_> {
+    ghost text = { λ tables. files_text (files_of tables) };
+
     fn write(self, out: &mut String) -> Result<(), AllocError> {
         write!(out, "records {}", self.count())?;
         for file in self {

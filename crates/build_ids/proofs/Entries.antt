@@ -12,10 +12,9 @@ use Rattle.dso_key.specs.Least.{least_mode}
 use Rattle.dso_key.specs.Modes.{mode_of}
 use Rattle.dso_key.specs.Order.{keys}
 use Rattle.dso_key.proofs.Leasts.{least_some, least_again}
-use Rattle.perf_data.specs.Questions.{present, question}
 use Rattle.build_ids.specs.Events.{Event, event, records}
 use Rattle.build_ids.specs.Table.{keep, key_in, entry_of, entries_of, build_ids}
-use Rattle.build_ids.specs.Rows.{row_key, entry_in, row_with, row_of, rows_from, row_table, entries_in}
+use Rattle.build_ids.specs.Rows.{row_key, entry_in, row_with, row_of, rows_from, row_table}
 use Rattle.build_ids.proofs.Reading.{records-end, records-more, event-size}
 use Rattle.build_ids.proofs.Parts.{path-part, id-part}
 
@@ -63,12 +62,8 @@ module _ (o : ByteOrder) (s : List ℕ) where
   rows_stand : map (entry_in s) (rows_from 0 (records o s)) ≡ entries_of (records o s)
   rows_stand = all_within (suc (length s)) 0 (omega arith)
 
-  table-stands : Ok (map (entry_in s) (row_table o s)) ≡ build_ids o s
+  pub table-stands : Ok (map (entry_in s) (row_table o s)) ≡ build_ids o s
   unfolding row_table
   table-stands =
       ap Ok (carries keys (row_key s) (λ e. e.0) (entry_in s) (λ r. refl) (rows_from 0 (records o s))
       ∙ ap (λ es. tabled keys (λ e. e.0) es) rows_stand)
-
-pub entries_stand : (o : ByteOrder) (section : Option (List ℕ)) → entries_in o section ≡ question build_ids o section
-entries_stand o None = refl
-entries_stand o (Some s) = ap present (table-stands o s)

@@ -2,3 +2,4 @@ pub mod Events
 pub mod Cursor
 pub mod Table
 pub mod Rows
+pub mod Laws

@@ -1,13 +1,9 @@
 -- The rows that a section's table is kept in.
-use Rattle.std.specs.Prelude.{ℕ, ◌+◌, ◌%◌, List, [], ◌∷◌, map, length, Some, None, Ok, Err, Option, Result}
+use Rattle.std.specs.Prelude.{ℕ, ◌+◌, ◌%◌, List, [], ◌∷◌, map, length, take, Option}
 use Rattle.std.specs.Option.{option_map, unwrap_or}
 use Rattle.wire.specs.declared.order.ByteOrder.{ByteOrder}
-use Rattle.wire.specs.declared.refusal.Fault.{Fault}
-use Rattle.wire.specs.declared.refusal.Refusal.{Refusal}
-use Rattle.wire.specs.declared.refusal.Refusal.TheVariants.{TooFewRows}
-use Rattle.table.specs.Rows.{key_part, value_part, blanks}
+use Rattle.table.specs.Rows.{key_part, value_part}
 use Rattle.table.specs.Table.{tabled}
-use Rattle.table.specs.Fills.{fits, laid}
 use Rattle.table.specs.declared.row.Row.{Row}
 use Rattle.dso_key.specs.Detect.{detect}
 use Rattle.dso_key.specs.Keys.{Key, kernel}
@@ -45,20 +41,6 @@ rows_from at (e ∷ es) = keep (row_of at e) (rows_from (at + e.size) es)
 unfoldable pub row_table : ByteOrder → List ℕ → List Row
 row_table o s = tabled keys (row_key s) (rows_from 0 (records o s))
 
--- How many of n rows are used, or that they are too few; and what the rows are then.
-abbrev pub counted : Option ℕ → Result (Option ℕ) Refusal
-counted None = Err (TooFewRows 2)
-counted (Some n) = Ok (Some n)
-
-abbrev pub answer : ℕ → ByteOrder → Option (List ℕ) → Result (Option ℕ) Refusal
-answer n o None = Ok None
-answer n o (Some s) = counted (fits n (row_table o s))
-
-abbrev pub left : ℕ → ByteOrder → Option (List ℕ) → List Row
-left n o None = blanks n
-left n o (Some s) = laid n (row_table o s)
-
--- What the rows of the table stand for.
-abbrev pub entries_in : ByteOrder → Option (List ℕ) → Result (Option (List Entry)) Fault
-entries_in o None = Ok None
-entries_in o (Some s) = Ok (Some (map (entry_in s) (row_table o s)))
+-- The entries that the first n of some rows stand for.
+abbrev pub builds_in : List ℕ → List Row → ℕ → List Entry
+builds_in section rows n = map (entry_in section) (take n rows)

@@ -26,12 +26,14 @@ impl<'a> Builds<'a> {
         DsoKey::detect(row.key(self.section), CpuMode::from(row.number))
     }
 
+    // The path of a row.
     pub fn path(&self, row: &Row) -> &'a [u8]
         ensures { result.now ≡ key_part self.now.section.now row.now }
     {
         row.key(self.section)
     }
 
+    // The build id of a row.
     pub fn id(&self, row: &Row) -> &'a [u8]
         ensures { result.now ≡ value_part self.now.section.now row.now }
     {

@@ -1,10 +1,13 @@
 // The question that the build id section of a store answers.
-ghost use Rattle.std.specs.Prelude.{◌≡◌, ◌≤◌, length};
-ghost use Rattle.perf_data.specs.Questions.{question};
+ghost use Rattle.std.specs.Prelude.{◌≡◌, ◌≤◌, length, IfSome, Ok};
+ghost use Rattle.perf_data.specs.Questions.{question, answered};
 ghost use Rattle.table.specs.Fills.{fits, laid};
-ghost use Rattle.build_ids.specs.Events.{event_of};
-ghost use Rattle.build_ids.specs.Rows.{row_of, row_table, answer, left, entries_in};
-ghost use Rattle.build_ids.specs.Table.{build_ids};
+ghost use Rattle.dso_key.specs.Order.{keys};
+ghost use Rattle.mappings.specs.Tables.{counted, within, laid_for, bytes_in, AnswersLast};
+ghost use Rattle.build_ids.specs.Events.{event_of, records};
+ghost use Rattle.build_ids.specs.Laws.{RecordsFollow};
+ghost use Rattle.build_ids.specs.Rows.{row_of, row_table, builds_in};
+ghost use Rattle.build_ids.specs.Table.{entries_of, build_ids};
 
 use crate::build_id_event::{BuildIdEvent, ID_AT, PATH_AT};
 use crate::build_id_events::BuildIdEvents;
@@ -19,10 +22,8 @@ use table::fill::Fill;
 use table::row::{Row, blank_all};
 use wire::refusal::Refusal;
 
-// The row of a record that stands at an offset, if it has a key.
-// Kept: that the place and both lengths are small. `parse` reads a record from any bytes, so a record says neither of its path nor
-// of its id that it is short, and only the section that `tabulate` walks bounds all three. A type that has the three facts would
-// be made there for each record, by the proof that now stands at this call, and taken apart here.
+// The row of a record that stands at an offset, if it has a key. A record by itself may be of any length: it is short because it
+// lies in a section.
 fn row_of(at: usize, event: BuildIdEvent<'_>) -> Option<Row>
     requires at { «at» ≤ 16777216 }
     requires path { length event.path.now ≤ 16777216 }
@@ -56,12 +57,10 @@ fn tabulate(section: Section<'_>, rows: &mut [Row]) -> Option<usize>
     fill.finish()
 }
 
-// Kept: `mappings` has these steps as `table_of`, over a trait of its own. No crate below the two knows both tables and the
-// questions of stores, and a section of build ids is never refused: the trait's `read` and its clauses would have a fault here
-// that cannot be. And it answers a count, and no slice of the rows, as table's `Fill::finish` does.
+// The table of a store's section by its rows.
 fn read<'a, S: Store<'a>>(store: &S, rows: &mut [Row]) -> Result<Option<usize>, Refusal>
-    ensures is { result ≡ answer (length rows.old) (S.endian store.now) ((S.map store.now).at 2) }
-    ensures after { rows.new ≡ left (length rows.old) (S.endian store.now) ((S.map store.now).at 2) }
+    ensures is { answered (λ n. n) result ≡ question (λ o s. counted (within 2 (length rows.old) (Ok (row_table o s)))) (S.endian store.now) ((S.map store.now).at 2) }
+    ensures after { rows.new ≡ laid_for (length rows.old) (question (λ o s. Ok (row_table o s)) (S.endian store.now) ((S.map store.now).at 2)) }
 {
     let Some(section) = section_of(store, Feature::BUILD_ID.0) else {
         blank_all(rows);
@@ -73,12 +72,15 @@ fn read<'a, S: Store<'a>>(store: &S, rows: &mut [Row]) -> Result<Option<usize>, 
     Ok(Some(used))
 }
 
-// The table of a store's build ids in the first of the rows, and how many it uses: each row stands for a key with the path
-// and the id that were last given with it, and what the rows stand for is what the section means.
+// The table of a store's build ids in the first of the rows, by rising keys, and how many it uses: a row stands for a key with
+// the path and the id that were last given with it. The other rows are blank; all are where there is no section, and where
+// the keys are more than the rows.
 pub fn build_ids<'a, S: Store<'a>>(store: &S, rows: &mut [Row]) -> Result<Option<usize>, Refusal>
-    ensures is { result ≡ answer (length rows.old) (S.endian store.now) ((S.map store.now).at 2) }
-    ensures after { rows.new ≡ left (length rows.old) (S.endian store.now) ((S.map store.now).at 2) }
-    ensures entries { entries_in (S.endian store.now) ((S.map store.now).at 2) ≡ question build_ids (S.endian store.now) ((S.map store.now).at 2) }
+    ensures is { answered (λ n. n) result ≡ question (λ o s. counted (within 2 (length rows.old) (build_ids o s))) (S.endian store.now) ((S.map store.now).at 2) }
+    ensures after { rows.new ≡ laid_for (length rows.old) (question (λ o s. Ok (row_table o s)) (S.endian store.now) ((S.map store.now).at 2)) }
+    ensures entries { answered (builds_in (bytes_in ((S.map store.now).at 2)) rows.new) result ≡ question (λ o s. within 2 (length rows.old) (build_ids o s)) (S.endian store.now) ((S.map store.now).at 2) }
+    ensures last { AnswersLast keys (question (λ o s. Ok (entries_of (records o s))) (S.endian store.now) ((S.map store.now).at 2)) (answered (builds_in (bytes_in ((S.map store.now).at 2)) rows.new) result) }
+    ensures records { IfSome ((S.map store.now).at 2) (λ s. RecordsFollow (S.endian store.now) s 0 (records (S.endian store.now) s)) }
 {
     read(store, rows)
 }

@@ -94,14 +94,12 @@ fn print_section(rt: &HostRuntime, store: SectionStore<'_>, room: usize) -> anyh
 }
 
 fn print_line(rt: &HostRuntime, line: &str) -> anyhow::Result<()> {
-    // Kept: two calls for the hexadecimal at a line's end, for the reason that mappings_cases has at its own.
     let (words, text) = line
         .split_once(" x")
         .context("a line ends in x and hexadecimal")?;
     let bytes = decode(rt.alloc(), text.as_bytes())?.context("a line has no whole hexadecimal")?;
     let mut words = words.split(' ');
     let (what, first, second) = (words.next(), words.next(), words.next());
-    // Kept: this match is the parser itself; an enum of the kinds of lines would be matched once more, with the same arms.
     match (what, first, second) {
         (Some("key"), Some(misc), None) => print_key(rt, misc.parse::<u16>()?, &bytes),
         (Some("name"), Some(misc), Some(room)) => {

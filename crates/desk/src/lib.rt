@@ -4,4 +4,6 @@
 pub mod answer;
 pub mod desk;
 pub mod lines;
+pub mod recording;
+pub mod reply;
 pub mod request;

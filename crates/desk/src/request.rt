@@ -7,7 +7,7 @@ use std::fmt;
 use std::num::ParseIntError;
 use std::str::FromStr;
 
-// Numbers are decimal. What a shelf has to judge, as a group that is none, is passed on to it.
+// What a line asks for. Numbers are decimal. What a shelf has to judge, as a group that is none, is passed on to it.
 #[derive(Clone, Copy)]
 pub enum Request<'a> {
     Open(Opening),
@@ -18,6 +18,7 @@ pub enum Request<'a> {
     Show(u64, Option<usize>),
 }
 
+// The strip length, the first group's number, and how many bytes a shelf gets.
 #[derive(Clone, Copy)]
 pub struct Opening {
     pub strip: usize,
@@ -26,14 +27,13 @@ pub struct Opening {
 }
 
 // A recording, by its path or by its bytes, and the memory to file it with where it is said.
-// Kept: the source is the word as it stands. An enum of the two would be made where a line is read and taken apart at once, where
-// the recording is read, and the digits are looked at there.
 #[derive(Clone, Copy)]
 pub struct Filing<'a> {
     pub source: &'a str,
     pub lent: Option<Lent>,
 }
 
+// How many rows and work bytes a filing is lent.
 #[derive(Clone, Copy)]
 pub struct Lent {
     pub rows: usize,
@@ -50,13 +50,14 @@ impl fmt::Display for BadLine {
 
     ghost output = { λ _. Some bad_line };
 
+    ghost styled_output = { λ _ _. Some bad_line };
+
     fn fmt<W: fmt::Write>(&self, f: &mut fmt::Formatter<W>) -> fmt::Result {
         f.write_str("bad line")
     }
 }
 
-// No filing has more rows (docs/SHELF.md): they are made once.
-// Kept: answers has a limit as great, but it is of another page, a question's rows (docs/ASK.md).
+// No filing has more rows: they are made once.
 pub const MOST_ROWS: usize = 65_536;
 
 // A number of decimal digits alone.

@@ -10,8 +10,7 @@ use crate::path::file_name;
 use text::shown::Shown;
 
 // Bytes that stand as they are, then the shown form of a text, and then bytes that stand as they are.
-// Kept: std's `Chain` holds for each side a flag that it has ended, which clauses see, so that what is to come would be told
-// by cases of four flags, in place of the three parts put together.
+// In place of std's `Chain`, whose flags of ended sides would be in each clause on what is to come.
 #[derive(Drop)]
 pub struct Name<'a> {
     front: &'a [u8],
@@ -45,6 +44,7 @@ impl<'a> Iterator for Name<'a> {
 }
 
 impl<'a> ModuleName<'a> {
+    // The name, byte by byte.
     pub fn bytes(self) -> Name<'a>
         ensures { to_come result ≡ written self.entry }
     {
@@ -72,7 +72,7 @@ pub(crate) fn fixed(name: &[u8]) -> Name<'_>
 }
 
 impl<'a> DsoKey<'a> {
-    // The name that the key goes by.
+    // The name that the key goes by, byte by byte.
     pub fn name(self) -> Name<'a>
         ensures { to_come result ≡ name_of (key_of self.entry) }
     {

@@ -4,7 +4,7 @@ use Rattle.std.specs.List.{flat_map}
 use Rattle.wire.specs.declared.order.ByteOrder.{ByteOrder}
 use Rattle.wire.specs.declared.refusal.Fault.{Fault}
 use Rattle.perf_data.specs.Texts.{feature_string, command_line}
-use Rattle.fixed_facts.specs.Fixed.{of_first, nr_cpus, total_mem, clock_frequency}
+use Rattle.fixed_facts.specs.Fixed.{of_first, nr_cpus, total_mem, clock_frequency, stats}
 use Rattle.fixed_facts.specs.declared.feature_sections.ClockFrequency.{ClockFrequency}
 use Rattle.fixed_facts.specs.declared.feature_sections.NrCpus.{NrCpus as Cpus}
 use Rattle.fixed_facts.specs.declared.feature_sections.TotalMem.{TotalMem as Memory}
@@ -65,7 +65,7 @@ read n CpuId o s = fact_of text (feature_string 9 o s)
 read n TotalMem o s = fact_of memory (of_first 8 total_mem o s)
 read n CmdLine o s = fact_of texts (command_line o s)
 read n PmuMappings o s = fact_of names (within 16 n (pmu_names o s))
-read n Stat o s = Ok mark
+read n Stat o s = fact_of (λ _. mark) (stats o s)
 read n ClockId o s = fact_of clock (of_first 8 clock_frequency o s)
 read n SimpleperfFile o s = fact_of files (symbol_tables o s)
 read n SimpleperfMetaInfo o s = fact_of pairs (within 129 n (meta_info o s))

@@ -1,5 +1,6 @@
 pub mod Written
 pub mod Facts
 pub mod Head
+pub mod Images
 pub mod Laws
-pub mod Places
+pub mod Tables

@@ -2,8 +2,9 @@
 ghost use Rattle.std.specs.Prelude.{◌≡◌};
 ghost use Rattle.facts.specs.Facts.{number as number_of};
 ghost use Rattle.facts.specs.Head.{carried};
+ghost use Rattle.facts.specs.Tables.{tabled_as};
 
-// By rising numbers, which are those of their sections.
+// A feature that a head carries; its number is that of its section.
 #[derive(Clone, Copy, PartialEq, Eq, Debug)]
 pub enum Carried {
     BuildId = 2,
@@ -23,11 +24,17 @@ pub enum Carried {
     SimpleperfMetaInfo = 129,
 }
 
+// A carried feature whose fact is a table, which is made in lent rows.
+#[derive(Clone, Copy, PartialEq, Eq, Debug)]
+pub enum Tabled {
+    BuildIds,
+    PmuNames,
+    MetaInfo,
+}
+
 impl Carried {
     // All of them, by rising numbers.
-    // Kept: a function, whose clause says here which features they are, and in which order. With a constant in its place the loop
-    // over them in `head` was proved too, but a constant has no clause: the check of this crate let a feature be left out.
-    // `CpuMode::ALL` is read in its own crate alone, and a clause there says what is found in it.
+    // A function, since a constant has no clause to say which they are.
     pub fn all() -> [Carried; 15]
         ensures { result ≡ carried }
     {
@@ -48,6 +55,18 @@ impl Carried {
             Carried::SimpleperfFile,
             Carried::SimpleperfMetaInfo,
         ]
+    }
+
+    // The table that the feature's fact is, if it is one.
+    pub fn table(self) -> Option<Tabled>
+        ensures { result ≡ tabled_as self }
+    {
+        match self {
+            Carried::BuildId => Some(Tabled::BuildIds),
+            Carried::PmuMappings => Some(Tabled::PmuNames),
+            Carried::SimpleperfMetaInfo => Some(Tabled::MetaInfo),
+            _ => None,
+        }
     }
 }
 

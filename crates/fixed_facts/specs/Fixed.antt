@@ -1,5 +1,5 @@
 -- Facts of a fixed length: numbers, one after the other.
-use Rattle.std.specs.Prelude.{ℕ, cond, List, take, drop, Some, None, Ok, Err, Option, Result, ◌==◌}
+use Rattle.std.specs.Prelude.{ℕ, Bool, true, false, cond, List, take, drop, Some, None, Ok, Err, Option, Result, ◌==◌}
 use Rattle.wire.specs.Faults.{fault_of, section_fault}
 use Rattle.wire.specs.Numbers.{number}
 use Rattle.wire.specs.declared.order.ByteOrder.{ByteOrder}
@@ -91,6 +91,10 @@ clock_frequency_in feature o s = and_then (whole64 feature o s) (λ n. Ok (recor
 abbrev pub clock_frequency : ByteOrder → List ℕ → Result ClockFrequency Fault
 clock_frequency = clock_frequency_in 23
 
+-- The section that tells a recording of `perf stat` says no more than that it is there, whatever its bytes.
+abbrev pub stats : ByteOrder → List ℕ → Result (Unit {0}) Fault
+stats o s = Ok tt
+
 -- Of a section only as many bytes are read as the fact has; further bytes are ignored.
 abbrev pub of_first : {V : Type 0} → ℕ → (ByteOrder → List ℕ → Result V Fault) → ByteOrder → List ℕ → Result V Fault
 of_first size read o s = read o (take size s)
@@ -99,6 +103,11 @@ of_first size read o s = read o (take size s)
 abbrev pub parsed : {V : Type 0} → Result V Refusal → Result V Fault
 parsed (Ok v) = Ok v
 parsed (Err e) = Err (fault_of e)
+
+-- Whether something is there, as a question answers it.
+abbrev pub is_there : Bool → Result (Option (Unit {0})) Fault
+is_there true = Ok (Some tt)
+is_there false = Ok None
 
 -- The same of a number of whatever type: `value` is what it stands for.
 abbrev pub parsed_as : {N V : Type 0} → (N → V) → Result N Refusal → Result V Fault

@@ -26,6 +26,7 @@ pub trait FixedFact: Sized {
     fn from_fields(fields: &Fields<'_>) -> Result<Self, Refusal>
         ensures { parsed result ≡ read fields.now.feature fields.now.order fields.now.bytes.now };
 
+    // The fact that some bytes are, as in its own feature's section.
     fn parse(order: ByteOrder, bytes: &[u8]) -> Result<Self, Refusal>
         ensures { parsed result ≡ read FEATURE order bytes.now }
     {
@@ -38,9 +39,6 @@ pub trait FixedFact: Sized {
 }
 
 // The bytes of a feature's section, and the order that its numbers have.
-// Kept: an order and any bytes, and no `Section`, since `parse` asks of no caller that the bytes are few; and the feature as a
-// field. The fact as a type parameter, with `PhantomData`, was tried: the methods below then need the very impl whose
-// `from_fields` calls them, and the borrow checker does not cover such a circle.
 #[derive(Clone, Copy)]
 pub struct Fields<'a> {
     pub feature: u32,
@@ -174,9 +172,7 @@ impl FixedFact for ClockFrequency {
 #[derive(Clone, Copy)]
 pub struct CompressionInfo {
     pub version: u32,
-    // 1 is Zstd.
-    // Kept: a number, as linux-perf-data's field is. Any number is carried as it is, and no other has a name: an enum would be
-    // `Zstd` and `Other(u32)`, with a conversion each way, and `Other(1)` would be a second value for Zstd.
+    // 1 is Zstd; any other number is carried as it is
     pub type_: u32,
     pub level: u32,
     pub ratio: u32,

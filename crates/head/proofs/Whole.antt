@@ -7,12 +7,13 @@ use Rattle.wire.specs.declared.order.ByteOrder.{ByteOrder}
 use Rattle.wire.specs.declared.refusal.Fault.{Fault}
 use Rattle.wire.specs.declared.refusal.Refusal.{Refusal}
 use Rattle.image.specs.Held.{Features, held}
+use Rattle.image.specs.Meaning.{Meaning, means}
 use Rattle.put.specs.Overlay.{overlay, place}
 use Rattle.put.specs.declared.writer.Writer.{Writer}
 use Rattle.put.specs.Appends.{Appends}
 use Rattle.put.proofs.Overlays.{overlay_front}
 use Rattle.facts.specs.Head.{Sections, answer, entries, mark, carried, head_of, fitted, length_of, ahead, outcome}
-use Rattle.facts.specs.Laws.{HeadsSpeak, Spoken, Speaks}
+use Rattle.facts.specs.Laws.{HeadsSpeak, Spoken, SpokenImage, Speaks}
 use Rattle.head_laws.proofs.Found.{not_ok}
 use Rattle.head.specs.Wrote.{Wrote}
 use Rattle.head.proofs.Writes.{wrote_behind}
@@ -83,3 +84,8 @@ spoken laws n room o m (Ok len) out p h a =
     let whole : p ≡ f.head ++ drop (length f.head) out = a ∙ ap (λ (y : Result (List ℕ) Fault). ahead y out) f.fits in
     let front : take len p ≡ f.head = ap (λ (x : List ℕ). take len x) whole ∙ take_at f.head (drop (length f.head) out) len (sym f.long) in
     subst (λ (x : List ℕ). Speaks n o m x) (sym front) (laws n o m f.head (record { is = f.is; short = f.short }))
+
+-- the same of a store that an image means
+pub spoken_image : (n : ℕ) (image : Meaning) (o : ByteOrder) (m : Features) (r : Result ℕ Refusal) (p : List ℕ) → means o m.at ≡ image → Spoken n o m r p → SpokenImage n image r p
+spoken_image n image o m (Ok len) p e says = (o, m, sym e, says)
+spoken_image n image o m (Err x) p e says = tt

@@ -4,7 +4,8 @@ ghost use Rattle.facts.specs.Head.{fitted, length_of, ahead, outcome};
 ghost use Rattle.image.specs.Index.{section_in};
 ghost use Rattle.image.specs.Kinds.{index_of};
 ghost use Rattle.image.specs.Meaning.{opened};
-ghost use Rattle.head.specs.Images.{head_in, image_within};
+ghost use Rattle.facts.specs.Images.{head_in, image_within};
+ghost use Rattle.facts.specs.Laws.{SpokenImage};
 ghost use Rattle.table.specs.Rows.{blanks};
 
 use crate::head::write_head;
@@ -33,6 +34,7 @@ pub fn write_image_head(
     ensures after { out.new ≡ ahead (fitted (length out.old) (head_in (length rows.old) (image_within most image.now))) out.old }
     ensures rows { rows.new ≡ blanks (length rows.old) }
     ensures room { IfOk result (λ n. n ≤ length out.old) }
+    ensures law { SpokenImage (length rows.old) (image_within most image.now) result out.new }
 {
     match open_within(image, most) {
         Ok(store) => write_head(&store, rows, out),

@@ -5,28 +5,20 @@ ghost use Rattle.facts.specs.Laws.{Spoken};
 ghost use Rattle.table.specs.Rows.{blanks};
 ghost use Rattle.head.specs.Wrote.{Wrote};
 
+use crate::fact::put_feature;
 use facts::carried::Carried;
 use image::section::LONGEST;
 use image::store::Store;
 use perf_data::features::Feature;
 use put::Writer;
-use put_facts::fact::put_fact;
 use table::row::{Row, blank_all};
 use wire::refusal::Refusal;
 
 // `PRH`, and the version 1.
-// Kept: the reader (image/head.rt) has these as a mark and a number, since it tells an image's kind by the mark alone. To take them
-// from there, that library would have to show how a head begins, for this line alone; what is written is proved to be read again.
 const MARK: &[u8; 5] = b"PRH\x01\0";
 
 // What stands before a fact: its feature's number, and its length.
-// Kept: the reader's `SECTION_AT` (image/head.rt) is this number too. To take it from there, that library would have to show it, for
-// this line alone; the same proof ties the two.
 const FRONT: usize = 6;
-
-// Kept: the store, the rows and the writer go from function to function as parameters, as `put_fact` takes them. A struct of the
-// three would have each clause say too that the store and the number of rows are those of before, as `Appends` says that a
-// writer's buffer is the same one; of a parameter that is known.
 
 // The entry of a feature, if the store has it: first its fact, and then what stands before it.
 fn write_entry<'a, S: Store<'a>>(
@@ -42,7 +34,7 @@ fn write_entry<'a, S: Store<'a>>(
     let start = w.at();
     let from = start + FRONT;
     w.go_to(from);
-    let is_there = put_fact(store, feature, rows, w)?;
+    let is_there = put_feature(store, feature, rows, w)?;
     if !is_there {
         w.go_to(start);
         return Ok(());

@@ -15,8 +15,7 @@ use table::row::Row;
 use table_cases::caller::DIRTY;
 
 // The rows and the bytes that are made once and lent for every line.
-// Kept: the rows that answers and desk have as their limits are as many, but theirs are docs/ASK.md's and docs/SHELF.md's, which
-// can change alone; these are only how far this test goes.
+// How far the lines go.
 const MOST_ROWS: usize = 65_536;
 
 const MOST_ROOM: usize = 70_000;
@@ -79,7 +78,6 @@ fn print_line(
     rows: &mut [Row],
     room: &mut [u8],
 ) -> anyhow::Result<()> {
-    // Kept: two calls for the hexadecimal at a line's end, for the reason that mappings_cases has at its own.
     let (front, text) = line.split_once(" x").context(
         "a line is a number of rows, bytes of room, x and hexadecimal",
     )?;

@@ -2,3 +2,4 @@ pub mod Frames
 pub mod Found
 pub mod Speaking
 pub mod Stands
+pub mod Faults

@@ -1,7 +1,7 @@
 -- A head speaks for its store, since what was read of a section is read again from the entry.
-use Rattle.std.proofs.Common.{◌≡◌, ℕ, ◌≤◌, Bool, true, false, cond, eqb, ltb, leb, List, ◌++◌, length, is_some, IfSome, Some, None, Ok, Err, Option, Result, sym, refl, ap, ◌∙◌, subst, arith}
+use Rattle.std.proofs.Common.{◌≡◌, ℕ, ◌≤◌, min, Bool, true, false, cond, eqb, ltb, leb, List, ◌++◌, length, is_some, IfSome, Some, None, Ok, Err, Option, Result, sym, refl, ap, ◌∙◌, subst, arith}
 use mathlib.Core.Path.{fun_ext}
-use Rattle.std.proofs.lemmas.Bool.{le-ltb, cond-false}
+use Rattle.std.proofs.lemmas.Bool.{le-ltb, cond-true, cond-false}
 use Rattle.wire.specs.Faults.{section_fault, image_fault, state_fault}
 use Rattle.wire.specs.Numbers.{number_of, number_at}
 use Rattle.wire.specs.declared.order.ByteOrder.{ByteOrder}
@@ -9,7 +9,7 @@ use Rattle.wire.specs.declared.order.ByteOrder.TheVariants.{Little}
 use Rattle.wire.specs.declared.refusal.Fault.{Fault}
 use Rattle.image.specs.Head.{head_front, head_marked, head_image}
 use Rattle.image.specs.Held.{Features}
-use Rattle.image.specs.Meaning.{faulty, means, unless_at}
+use Rattle.image.specs.Meaning.{Meaning, faulty, means, unless_at}
 use Rattle.image.specs.Run.{run_from, first_broken, walked as Walked-as}
 use Rattle.perf_data.specs.Questions.{present, question}
 use Rattle.facts.specs.declared.carried.Carried.{Carried}
@@ -19,8 +19,9 @@ use Rattle.mappings.specs.MetaInfo.{meta_info}
 use Rattle.mappings.specs.Tables.{within}
 use Rattle.build_ids.specs.Table.{build_ids}
 use Rattle.facts.specs.Facts.{Fact, builds, names, pairs, number, fact_of, read}
-use Rattle.facts.specs.Head.{Answer, Sections, answer, after, entries, mark, carried, head_of}
-use Rattle.facts.specs.Laws.{FactsReadBack, head_sections, IsHead, Alike, HeadsSpeak}
+use Rattle.facts.specs.Head.{Answer, Sections, answer, after, entries, mark, carried, head_of, fitted}
+use Rattle.facts.specs.Images.{head_in, image_within}
+use Rattle.facts.specs.Laws.{FactsReadBack, head_sections, IsHead, Alike, HeadAgain, HeadsSpeak}
 use Rattle.head_laws.proofs.Found.{not_ok, numbered, carried_rise, bytes, Small, Whole, among, AllWhole, Walked, walked, all_whole}
 
 -- ---- of the carried features, each has the entry of its answer
@@ -196,6 +197,16 @@ module _ (laws : FactsReadBack) where
         ∙ (ap (λ (b : Carried → Answer). after (Ok mark) (entries b carried)) (fun_ext answers)
         ∙ (ap (λ (r : Result (List ℕ) Fault). after (Ok mark) r) p.is ∙ ap (λ (x : List ℕ). Ok x) p.all))
 
+    -- also by the head call, which opens it as an image of any kind
+    pub again : HeadAgain n h
+    unfolding HeadAgain
+    again most room l r =
+        let p = parts n o m.at h head.is in
+        let is_head : head_marked h ≡ true = subst (λ (x : List ℕ). head_marked x ≡ true) p.all refl in
+        let image : image_within most h ≡ means Little (head_sections h) = cond-false (ltb most (length h)) _ _ (le-ltb most (length h) l) ∙ (cond-true (head_marked h) _ _ is_head ∙ opens) in
+        ap (λ (i : Meaning). fitted room (head_in n i)) image
+        ∙ (ap (fitted room) itself ∙ cond-false (ltb (min room 16777216) (length h)) _ _ (le-ltb (min room 16777216) (length h) (omega (arith, head.short))))
+
   -- heads of two stores
   module _ (n : ℕ) (o : ByteOrder) (m : Features) (h : List ℕ) (head : IsHead n o m h) (k : ℕ) (q : ByteOrder) (t : Features) (g : List ℕ) (other : IsHead k q t g) where
     pub equal : Alike n o m.at k q t.at → h ≡ g
@@ -228,6 +239,7 @@ module _ (laws : FactsReadBack) where
         opens = opens n o m h head;
         answers = answers n o m h head;
         itself = itself n o m h head;
+        again = again n o m h head;
         equal = equal n o m h head;
         alike = alike n o m h head;
         entry_equal = entry_equal n o m h head;

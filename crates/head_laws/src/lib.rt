@@ -9,7 +9,7 @@ pub fn heads_stand()
     ensures { HeadsSpeak }
 {}
 
-// Keys, ids, texts, a table and two heads.
+// Keys, ids, texts and two heads have the bytes that the rules give.
 pub fn examples_stand()
     ensures { Examples }
 {}

@@ -7,8 +7,7 @@ ghost use Rattle.hexadecimal.specs.Hex.{digit_of, bytes_of, items};
 use std::alloc::{AllocError, Global};
 use std::fmt;
 
-// What a digit counts.
-// Kept: by hand. `to_digit` takes capitals too, which are no digits here.
+// What a digit counts. Capitals are none, which std's `to_digit` takes.
 fn digit(c: u8) -> Option<u8>
     ensures { result ≡ digit_of c }
 {

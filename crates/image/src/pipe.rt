@@ -65,9 +65,11 @@ impl Entries for Records {
 #[derive(Clone, Copy)]
 pub struct Pipe;
 
+// A pipe image that is open.
 pub type PipeImage<'a> = Opened<'a, Pipe>;
 
 impl<'a> Opened<'a, Pipe> {
+    // Opens a pipe image, or says where it is none.
     pub fn open(image: &'a [u8]) -> Result<PipeImage<'a>, Refusal>
         ensures means { image_meaning result ≡ pipe_image image.now }
         ensures laid { PipeLaid image.now (image_meaning result) }

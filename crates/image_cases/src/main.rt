@@ -37,13 +37,10 @@ fn print_opened<'a, S: Store<'a> + Drop>(
 }
 
 fn print_line(rt: &HostRuntime, line: &str) -> anyhow::Result<()> {
-    // Kept: two calls for the hexadecimal at a line's end, for the reason that mappings_cases has at its own.
     let (kind, text) = line
         .split_once(" x")
         .context("a line is a kind, a space, x and hexadecimal")?;
     let image = decode(rt.alloc(), text.as_bytes())?.context("a line has no whole hexadecimal")?;
-    // Kept: this match is the parser itself, and each word opens a type of its own: an enum of the four words would be matched
-    // once more, with these same four arms, since no value stands for the type that an arm opens.
     match kind {
         "any" => print_opened(rt, Image::open(&image)),
         "file" => print_opened(rt, FileImage::open(&image)),

@@ -2,6 +2,9 @@
 // where it is refused.
 #![tactic(auto)]
 
+ghost use Rattle.std.specs.Prelude.{◌≡◌};
+ghost use Rattle.info.specs.Names.{section_name};
+
 mod answer;
 mod printable;
 mod tables;
@@ -14,7 +17,7 @@ use fixed_facts::perf_file::{
 };
 use image::ask::section_of;
 use image::index::FEATURES;
-use image::kinds::Image;
+use image::kinds::{Image, Kind};
 use image::store::Store;
 use perf_data::features::Feature;
 use perf_data::perf_file::{cmdline, feature_string};
@@ -48,7 +51,6 @@ fn print_fact<'a, S: Store<'a>>(
     feature: Feature,
     section: &[u8],
 ) -> io::Result<()> {
-    // Kept: a match by feature. The answers are of many types, so a table of closures would hold the calls that the arms make.
     match feature {
         Feature::BUILD_ID => {
             let builds = Builds { section };
@@ -75,23 +77,35 @@ fn print_fact<'a, S: Store<'a>>(
     }
 }
 
+// What a section is called. perf ends the features of a recording through a pipe by an empty one of the number after its last.
+fn section_name(kind: Kind, feature: Feature, section: &[u8]) -> &'static str
+    ensures { result.now ≡ section_name «kind» feature.0 section.now }
+{
+    match feature.name() {
+        Some(name) => name,
+        None if kind == Kind::Pipe && section.is_empty() => "end mark",
+        None => "unknown",
+    }
+}
+
 fn print_section<'a, S: Store<'a>>(
     rt: &HostRuntime,
     store: &S,
+    kind: Kind,
     feature: Feature,
     section: &[u8],
 ) -> io::Result<()> {
     let number = feature.0;
     let len = section.len();
-    let name = feature.name().unwrap_or("unknown");
+    let name = section_name(kind, feature, section);
     print!(rt; "{number:>3} {name} ({len} bytes)")?;
     print_fact(rt, store, feature, section)
 }
 
-fn print_store<'a, S: Store<'a>>(rt: &HostRuntime, store: &S) -> io::Result<()> {
+fn print_store<'a, S: Store<'a>>(rt: &HostRuntime, store: &S, kind: Kind) -> io::Result<()> {
     for number in 0..FEATURES as u32 {
         if let Some(section) = section_of(store, number) {
-            print_section(rt, store, Feature(number), section.bytes)?;
+            print_section(rt, store, kind, Feature(number), section.bytes)?;
         }
     }
     Ok(())
@@ -108,7 +122,7 @@ pub fn print_image(rt: &HostRuntime, image: &[u8]) -> io::Result<()> {
             let kind = InWords(store.kind());
             let order = InWords(store.order());
             println!(rt; "{kind}, {order}")?;
-            print_store(rt, &store)
+            print_store(rt, &store, store.kind())
         }
     }
 }

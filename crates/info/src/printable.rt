@@ -1,6 +1,7 @@
 // Text from a recording, printed with control codes, what turns the direction of a line or ends it, and the backslash escaped.
 ghost use Rattle.std.specs.Prelude.{◌≡◌};
-ghost use Rattle.info.specs.Plain.{is_plain};
+ghost use Rattle.std.specs.Fmt.{WritesOnOk};
+ghost use Rattle.info.specs.Plain.{is_plain, is_plain_in, char_text, printed};
 
 use crate::words::InWords;
 use std::fmt;
@@ -22,28 +23,42 @@ fn is_plain(c: char) -> bool
     )
 }
 
+// The same of a text or, where `in_word` holds, of a word, in which the space is not plain.
+fn is_plain_in(in_word: bool, c: char) -> bool
+    ensures { result ≡ is_plain_in in_word c }
+{
+    is_plain(c) && !(in_word && c == ' ')
+}
+
+fn write_char<W: fmt::Write>(f: &mut fmt::Formatter<W>, in_word: bool, c: char) -> fmt::Result
+    ensures { WritesOnOk W.write_str_gives f.old result (char_text in_word c) f.new }
+{
+    if is_plain_in(in_word, c) {
+        write!(f, "{c}")
+    } else {
+        let code = u32::from(c);
+        write!(f, "\\u{{{code:x}}}")
+    }
+}
+
 // The characters of a text, each that is not plain by its number.
-fn write_escaped<W: fmt::Write, F: Fn(char) -> bool>(
-    f: &mut fmt::Formatter<W>,
-    text: &str,
-    is_plain: F,
-) -> fmt::Result
-    requires { F.IsAlwaysCallable is_plain }
+fn write_text<W: fmt::Write>(f: &mut fmt::Formatter<W>, in_word: bool, text: &str) -> fmt::Result
+    ensures { WritesOnOk W.write_str_gives f.old result (printed in_word text.now) f.new }
 {
     for c in text.chars() {
-        if is_plain(c) {
-            write!(f, "{c}")?;
-        } else {
-            let code = u32::from(c);
-            write!(f, "\\u{{{code:x}}}")?;
-        }
+        write_char(f, in_word, c)?;
     }
     Ok(())
 }
 
 impl fmt::Display for InWords<&str> {
+    ghost use Rattle.std.specs.Prelude.{Some, false};
+    ghost use Rattle.info.specs.Plain.{printed};
+
+    ghost output = { λ t. Some (printed false t.0.now) };
+
     fn fmt<W: fmt::Write>(&self, f: &mut fmt::Formatter<W>) -> fmt::Result {
-        write_escaped(f, self.0, is_plain)
+        write_text(f, false, self.0)
     }
 }
 
@@ -52,7 +67,12 @@ impl fmt::Display for InWords<&str> {
 pub struct Word<'a>(pub &'a str);
 
 impl fmt::Display for Word<'_> {
+    ghost use Rattle.std.specs.Prelude.{Some, true};
+    ghost use Rattle.info.specs.Plain.{printed};
+
+    ghost output = { λ w. Some (printed true w.0.now) };
+
     fn fmt<W: fmt::Write>(&self, f: &mut fmt::Formatter<W>) -> fmt::Result {
-        write_escaped(f, self.0, |c| is_plain(c) && c != ' ')
+        write_text(f, true, self.0)
     }
 }

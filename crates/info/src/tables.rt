@@ -1,4 +1,8 @@
 // Sections that are many entries: an entry a line, below the section's own.
+ghost use Rattle.std.specs.Prelude.{◌≡◌, ◌+◌, ◌/◌, min, IfOk, vec_len, string_bytes, false};
+ghost use Rattle.info.specs.Plain.{printed};
+ghost use Rattle.text.specs.Pieces.{shown};
+
 use crate::answer::said;
 use crate::words::InWords;
 use build_ids::builds::Builds;
@@ -16,22 +20,25 @@ use text::shown::Shown;
 use wire::refusal::Refusal;
 
 // Bytes as a text: in their shown form, and escaped.
-fn escaped(rt: &HostRuntime, bytes: &[u8]) -> io::Result<String> {
+fn escaped(rt: &HostRuntime, bytes: &[u8]) -> io::Result<String>
+    ensures { IfOk result (λ s. string_bytes s ≡ printed false (shown bytes.now)) }
+{
     let shown: Vec<u8> = Shown::new(bytes).collect(rt.alloc())?;
     let text = InWords(from_utf8(&shown).unwrap_or(""));
     Ok(text.to_string(rt.alloc())?)
 }
 
-// Rows for as many entries as a section can have: the shortest is two bytes.
-fn rows_for(rt: &HostRuntime, len: usize) -> io::Result<Vec<Row>> {
-    Ok(vec![in rt.alloc(); Row::BLANK; len / 2 + 1]?)
+// No table gets more rows: where its keys fall, each moves all rows before it.
+const MOST_ROWS: usize = 65_536;
+
+// Rows for as many entries as a section can have, of which the shortest is two bytes; up to the most.
+fn rows_for(rt: &HostRuntime, len: usize) -> io::Result<Vec<Row>>
+    ensures { IfOk result (λ v. vec_len v ≡ min (len / 2 + 1) 65536) }
+{
+    Ok(vec![in rt.alloc(); Row::BLANK; (len / 2 + 1).min(MOST_ROWS)]?)
 }
 
 // A table of a store. The sections of the store live for `'a`, which the impls cannot name in a bound alone.
-// Kept: answers and mappings_cases have a table of names and one of entries too. What the three share is which call reads the rows
-// and which gives an entry, a line each; all else is what is printed: a text of its own here, a write into one there, a Display.
-// `Mapping` of mappings is a trait over two of the three tables and has no entries. Public, with a type of entries that borrow
-// from the section, it would save those two lines of two tables, and the table of build ids would still have its own.
 pub trait Table<'a> {
     // What its entries are called.
     const ENTRIES: &'static str;
@@ -43,6 +50,7 @@ pub trait Table<'a> {
     fn entry(&self, rt: &HostRuntime, row: &Row) -> io::Result<Option<String>>;
 }
 
+// The pmu names of a store.
 #[derive(Drop)]
 pub struct PmuTable<'s, S>(pub &'s S);
 
@@ -63,6 +71,7 @@ impl<'a, S: Store<'a>> Table<'a> for PmuTable<'_, S> {
     }
 }
 
+// The meta info of a store.
 #[derive(Drop)]
 pub struct MetaTable<'s, S>(pub &'s S);
 
@@ -83,13 +92,14 @@ impl<'a, S: Store<'a>> Table<'a> for MetaTable<'_, S> {
     }
 }
 
+// The build ids of a store, whose section they lie in. Programs as `perf buildid-list` prints them, each with the name of its key
+// behind it.
 #[derive(Drop)]
 pub struct BuildTable<'s, S> {
     pub store: &'s S,
     pub builds: Builds<'s>,
 }
 
-// Programs as `perf buildid-list` prints them, each with the name of its key behind it.
 impl<'a, S: Store<'a>> Table<'a> for BuildTable<'_, S> {
     const ENTRIES: &'static str = "programs";
 
@@ -136,6 +146,7 @@ fn print_file(rt: &HostRuntime, file: SimpleperfFileRecord<'_>) -> io::Result<()
     println!(rt; "    {path} (type {file_type}, {symbols} symbols)")
 }
 
+// The files of a simpleperf recording, each on a line of its own.
 pub fn print_symbols<'a, S: Store<'a>>(rt: &HostRuntime, store: &S) -> io::Result<()> {
     let Some(tables) = said(rt, symbol_tables(store))? else {
         return Ok(());

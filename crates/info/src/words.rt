@@ -11,6 +11,13 @@ use wire::order::ByteOrder;
 pub struct InWords<T>(pub T);
 
 impl fmt::Display for InWords<Kind> {
+    ghost use Rattle.std.specs.Prelude.{Some};
+    ghost use Rattle.info.specs.Words.{kind_words};
+
+    ghost output = { λ w. Some (kind_words w.0) };
+
+    ghost styled_output = { λ w _. Some (kind_words w.0) };
+
     fn fmt<W: fmt::Write>(&self, f: &mut fmt::Formatter<W>) -> fmt::Result {
         f.write_str(match self.0 {
             Kind::File => "file image",
@@ -21,12 +28,22 @@ impl fmt::Display for InWords<Kind> {
 }
 
 impl fmt::Display for InWords<ByteOrder> {
+    ghost use Rattle.std.specs.Prelude.{Some};
+    ghost use Rattle.info.specs.Words.{order_words};
+
+    ghost output = { λ w. Some (order_words w.0) };
+
     fn fmt<W: fmt::Write>(&self, f: &mut fmt::Formatter<W>) -> fmt::Result {
         write!(f, "{}-endian", self.0)
     }
 }
 
 impl fmt::Display for InWords<NrCpus> {
+    ghost use Rattle.std.specs.Prelude.{Some};
+    ghost use Rattle.info.specs.Words.{nr_cpus_words};
+
+    ghost output = { λ w. Some (nr_cpus_words w.0) };
+
     fn fmt<W: fmt::Write>(&self, f: &mut fmt::Formatter<W>) -> fmt::Result {
         write!(
             f,
@@ -37,12 +54,22 @@ impl fmt::Display for InWords<NrCpus> {
 }
 
 impl fmt::Display for InWords<TotalMem> {
+    ghost use Rattle.std.specs.Prelude.{Some};
+    ghost use Rattle.info.specs.Words.{total_mem_words};
+
+    ghost output = { λ w. Some (total_mem_words w.0) };
+
     fn fmt<W: fmt::Write>(&self, f: &mut fmt::Formatter<W>) -> fmt::Result {
         write!(f, "{} kB", self.0.kilobytes)
     }
 }
 
 impl fmt::Display for InWords<SampleTimeRange> {
+    ghost use Rattle.std.specs.Prelude.{Some};
+    ghost use Rattle.info.specs.Words.{sample_time_words};
+
+    ghost output = { λ w. Some (sample_time_words w.0) };
+
     fn fmt<W: fmt::Write>(&self, f: &mut fmt::Formatter<W>) -> fmt::Result {
         write!(
             f,
@@ -53,12 +80,22 @@ impl fmt::Display for InWords<SampleTimeRange> {
 }
 
 impl fmt::Display for InWords<ClockFrequency> {
+    ghost use Rattle.std.specs.Prelude.{Some};
+    ghost use Rattle.info.specs.Words.{clock_frequency_words};
+
+    ghost output = { λ w. Some (clock_frequency_words w.0) };
+
     fn fmt<W: fmt::Write>(&self, f: &mut fmt::Formatter<W>) -> fmt::Result {
         write!(f, "{} ns per tick", self.0.ns_per_tick)
     }
 }
 
 impl fmt::Display for InWords<CompressionInfo> {
+    ghost use Rattle.std.specs.Prelude.{Some};
+    ghost use Rattle.info.specs.Words.{compression_words};
+
+    ghost output = { λ w. Some (compression_words w.0) };
+
     fn fmt<W: fmt::Write>(&self, f: &mut fmt::Formatter<W>) -> fmt::Result {
         write!(
             f,
@@ -69,6 +106,11 @@ impl fmt::Display for InWords<CompressionInfo> {
 }
 
 impl fmt::Display for InWords<ClockData> {
+    ghost use Rattle.std.specs.Prelude.{Some};
+    ghost use Rattle.info.specs.Words.{clock_data_words};
+
+    ghost output = { λ w. Some (clock_data_words w.0) };
+
     fn fmt<W: fmt::Write>(&self, f: &mut fmt::Formatter<W>) -> fmt::Result {
         write!(
             f,

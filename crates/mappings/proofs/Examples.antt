@@ -5,11 +5,7 @@ use Rattle.text.specs.Pieces.{longest, starts_one, pieces_past}
 use Rattle.text.specs.Strings.{before_nul}
 use Rattle.mappings.specs.PmuMappings.{items_in}
 use Rattle.mappings.specs.MetaInfo.{pieces}
-use Rattle.mappings.specs.Laws.{LaterValue, EmptySection, LoneNul, LonePiece, KeyFirst, SkippedName, CutLength}
-
-pub later_value : LaterValue
-unfolding pieces longest starts_one pieces_past
-later_value = refl
+use Rattle.mappings.specs.Laws.{EmptySection, LoneNul, LonePiece, KeyFirst, SkippedName, CutLength}
 
 pub empty_section : EmptySection
 unfolding pieces

@@ -8,3 +8,4 @@ pub mod Pairs
 pub mod MetaTied
 pub mod Splitting
 pub mod Examples
+pub mod Lasts

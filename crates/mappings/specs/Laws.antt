@@ -21,10 +21,6 @@ Bare (p ∷ ps) = (before_nul p.bytes ≡ p.bytes) × Bare ps
 abbrev pub Splits : Type 0
 Splits = (at : ℕ) (s : List ℕ) → Bare (pieces at s) × (rejoined (pieces at s) ≡ s)
 
--- A key given again takes the later value, which needs no NUL behind it.
-abbrev pub LaterValue : Type 0
-LaterValue = meta_table (0x61 ∷ 0x00 ∷ 0x62 ∷ 0x00 ∷ 0x61 ∷ 0x00 ∷ 0x63 ∷ []) ≡ Ok ((0x61 ∷ [], 0x63 ∷ []) ∷ [])
-
 -- An empty section is one empty piece, without a partner; a lone NUL is between two.
 abbrev pub EmptySection : Type 0
 EmptySection = meta_table [] ≡ Ok []

@@ -4,6 +4,7 @@ use Rattle.std.specs.Option.{unwrap_or}
 use Rattle.wire.specs.Faults.{fault_of, state_fault}
 use Rattle.wire.specs.declared.refusal.Fault.{Fault}
 use Rattle.wire.specs.declared.refusal.Refusal.{Refusal}
+use Rattle.table.specs.LastOfEach.{LastOfEach}
 use Rattle.table.specs.Order.{Order}
 use Rattle.table.specs.Rows.{blanks, entry_of}
 use Rattle.table.specs.Table.{tabled}
@@ -48,6 +49,10 @@ entries_in key section rows n = map (entry_of key section) (take n rows)
 -- The bytes of a section; none where there is no section.
 abbrev pub bytes_in : Option (List ℕ) → List ℕ
 bytes_in section = unwrap_or section []
+
+-- Where a section gives entries and its question answers a table, the table has the last of each key.
+abbrev pub AnswersLast : {K V : Type 0} → Order K → Result (Option (List (K × V))) Fault → Result (Option (List (K × V))) Fault → Type 0
+AnswersLast {K} {V} o given answer = (entries table : List (K × V)) → given ≡ Ok (Some entries) → answer ≡ Ok (Some table) → LastOfEach o (λ e. e.0) entries table
 
 -- Another value of what is read.
 abbrev pub with_value : {X Y : Type 0} → (X → Y) → Result X Fault → Result Y Fault

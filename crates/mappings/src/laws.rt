@@ -1,5 +1,5 @@
 // What the definitions say, in other words: the law of splitting, and what some sections mean.
-ghost use Rattle.mappings.specs.Laws.{Splits, LaterValue, EmptySection, LoneNul, LonePiece, KeyFirst, SkippedName, CutLength};
+ghost use Rattle.mappings.specs.Laws.{Splits, EmptySection, LoneNul, LonePiece, KeyFirst, SkippedName, CutLength};
 
 // The pieces of a section have no NUL, and with a NUL between each two they are the section again.
 pub fn pieces_stand()
@@ -8,7 +8,6 @@ pub fn pieces_stand()
 
 // What some sections mean.
 pub fn examples_stand()
-    ensures later { LaterValue }
     ensures empty { EmptySection }
     ensures nul { LoneNul }
     ensures lone { LonePiece }

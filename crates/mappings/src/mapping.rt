@@ -58,7 +58,6 @@ fn settle<M: Mapping>(section: Section<'_>, rows: &mut [Row]) -> Result<usize, R
 
 // The table of a store's section in the first rows; the others are blank. All rows are blank where there is no section, after
 // a fault, and where the table has more rows.
-// Kept: it answers a count, and no slice of the rows, as table's `Fill::finish` does.
 pub(crate) fn table_of<'a, M: Mapping, S: Store<'a>>(
     store: &S,
     rows: &mut [Row],

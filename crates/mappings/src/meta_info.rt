@@ -1,11 +1,12 @@
 // META_INFO of simpleperf, feature 129: what simpleperf notes of a recording, keys with their values.
 ghost use Rattle.std.specs.Prelude.{◌≡◌, ◌≤◌, ℕ, List, length};
 ghost use Rattle.wire.specs.Faults.{fault_of, section_fault};
+ghost use Rattle.table.specs.Order.{texts};
 ghost use Rattle.table.specs.Rows.{key_part, entry_of};
 ghost use Rattle.perf_data.specs.Questions.{question, answered, mapped};
 ghost use Rattle.mappings.specs.Entries.{of_meta};
-ghost use Rattle.mappings.specs.MetaInfo.{pieces_from, first_pair, pair_row, meta_rows, meta_info};
-ghost use Rattle.mappings.specs.Tables.{counted, within, laid_for, outcome, entries_in, bytes_in};
+ghost use Rattle.mappings.specs.MetaInfo.{pieces_from, first_pair, pair_row, meta_rows, meta_pairs, meta_info};
+ghost use Rattle.mappings.specs.Tables.{counted, within, laid_for, outcome, entries_in, bytes_in, AnswersLast};
 
 use crate::mapping::{Mapping, table_of};
 use image::section::Section;
@@ -85,8 +86,6 @@ impl Mapping for MetaInfo {
             section: section.bytes,
         };
         let mut fill = Fill::start(texts, rows);
-        // Kept: an iterator of pairs would have this place as its field, with the same sum at each step, and would give each row
-        // as a `Result`, with a relation beside it that says of both outcomes what comes next.
         let mut at = 0;
         while let Some(row) = read_pair(section, at)? {
             fill.add(row);
@@ -102,6 +101,7 @@ pub fn meta_info<'a, S: Store<'a>>(store: &S, rows: &mut [Row]) -> Result<Option
     ensures answer { answered (λ n. n) result ≡ question (λ o s. counted (within 129 (length rows.old) (meta_info o s))) (S.endian store.now) ((S.map store.now).at 129) }
     ensures after { rows.new ≡ laid_for (length rows.old) (question (λ _ s. meta_rows s) (S.endian store.now) ((S.map store.now).at 129)) }
     ensures entries { answered (entries_in (key_part (bytes_in ((S.map store.now).at 129))) (bytes_in ((S.map store.now).at 129)) rows.new) result ≡ question (λ o s. within 129 (length rows.old) (meta_info o s)) (S.endian store.now) ((S.map store.now).at 129) }
+    ensures last { AnswersLast texts (question (λ _ s. meta_pairs s) (S.endian store.now) ((S.map store.now).at 129)) (answered (entries_in (key_part (bytes_in ((S.map store.now).at 129))) (bytes_in ((S.map store.now).at 129)) rows.new) result) }
 {
     table_of::<MetaInfo, S>(store, rows)
 }

@@ -1,9 +1,10 @@
 // PMU_MAPPINGS, feature 16: the kernel's numbers of performance monitoring units, with their names.
 ghost use Rattle.std.specs.Prelude.{◌≡◌, ◌-◌, ◌≤◌, ℕ, length};
 ghost use Rattle.wire.specs.Faults.{fault_of};
-ghost use Rattle.mappings.specs.PmuMappings.{cut, item_at, item_read, name_row, past_text, key_of, pmu_rows, pmu_names};
-ghost use Rattle.mappings.specs.Tables.{counted, within, laid_for, entries_in, bytes_in};
+ghost use Rattle.mappings.specs.PmuMappings.{cut, item_at, item_read, name_row, past_text, key_of, pmu_rows, pmu_items, pmu_names};
+ghost use Rattle.mappings.specs.Tables.{counted, within, laid_for, entries_in, bytes_in, AnswersLast};
 ghost use Rattle.perf_data.specs.Questions.{question, answered, mapped};
+ghost use Rattle.table.specs.Order.{numbers};
 ghost use Rattle.table.specs.Rows.{entry_of};
 ghost use Rattle.mappings.specs.Entries.{of_pmu};
 
@@ -43,8 +44,6 @@ fn cut_short(at: u32) -> Refusal
 }
 
 // What follows a header text, whether it is well formed or not.
-// Kept: an order and bytes, as `read_string` takes them. The one caller has the two at hand, from the section and from what is
-// left of it, and would make a `Section` of them for this call alone.
 fn past_text(order: ByteOrder, s: &[u8]) -> &[u8]
     ensures { result.now ≡ past_text order s.now }
 {
@@ -53,8 +52,6 @@ fn past_text(order: ByteOrder, s: &[u8]) -> &[u8]
 }
 
 // The item that the rest of a section begins with.
-// Kept: the section and what is left of it, and no cursor: as simpleperf's `Reader` it would need a method with a contract for a
-// number, for a text and for the place, longer than this loop and that over the texts of a list in perf_data.
 fn read_item<'a>(section: Section<'a>, rest: &'a [u8]) -> Result<Item<'a>, Refusal>
     requires { length rest.now ≤ length section.bytes.now }
     ensures { item_read result ≡ item_at name_row section.entry.order (length section.entry.bytes.now - length rest.now) rest.now }
@@ -126,6 +123,7 @@ pub fn pmu_mappings<'a, S: Store<'a>>(store: &S, rows: &mut [Row]) -> Result<Opt
     ensures answer { answered (λ n. n) result ≡ question (λ o s. counted (within 16 (length rows.old) (pmu_names o s))) (S.endian store.now) ((S.map store.now).at 16) }
     ensures after { rows.new ≡ laid_for (length rows.old) (question pmu_rows (S.endian store.now) ((S.map store.now).at 16)) }
     ensures entries { answered (entries_in key_of (bytes_in ((S.map store.now).at 16)) rows.new) result ≡ question (λ o s. within 16 (length rows.old) (pmu_names o s)) (S.endian store.now) ((S.map store.now).at 16) }
+    ensures last { AnswersLast numbers (question pmu_items (S.endian store.now) ((S.map store.now).at 16)) (answered (entries_in key_of (bytes_in ((S.map store.now).at 16)) rows.new) result) }
 {
     table_of::<PmuMappings, S>(store, rows)
 }

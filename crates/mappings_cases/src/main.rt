@@ -43,9 +43,6 @@ fn print_answer(
 }
 
 fn print_line(rt: &HostRuntime, line: &str) -> anyhow::Result<()> {
-    // Kept: five test programs take the hexadecimal at a line's end so, by two calls that each say what the line lacks; what stands
-    // in front of it differs in each. `decode` itself answers with an Option, since it has no errors but those of memory, and a
-    // function for these two calls would need a crate that leans on anyhow too.
     let (front, text) = line.split_once(" x").context(
         "a line is a question, an order, a number of rows, x and hexadecimal",
     )?;

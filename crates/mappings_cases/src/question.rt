@@ -10,16 +10,14 @@ use std::str::FromStr;
 use table::row::Row;
 use wire::refusal::Refusal;
 
-// Kept: an enum, where answers and info have a trait of three types: a question's word is parsed to one value, which stands for
-// either table. What those two have in common with this one is which call reads the rows and which gives an entry, a line each; all
-// else is what they print, in forms of their own. `Mapping` of mappings, made public with a type of entries, would save those
-// lines, but a parsed word is a value, and a match over it would pick the type of that trait, as the two below pick the call.
+// The tables that a line may ask for.
 #[derive(Clone, Copy)]
 pub enum Table {
     PmuMappings,
     MetaInfo,
 }
 
+// A table, and the feature whose section the store has.
 #[derive(Clone, Copy)]
 pub struct Question {
     pub table: Table,
@@ -58,6 +56,7 @@ impl fmt::Display for Entry<'_> {
 }
 
 impl Table {
+    // The table's rows in those lent.
     pub fn read(
         self,
         store: &SectionStore<'_>,
@@ -69,6 +68,7 @@ impl Table {
         }
     }
 
+    // What a row of the table stands for.
     pub fn entry<'a>(self, store: &SectionStore<'a>, row: &Row) -> Option<Entry<'a>> {
         match self {
             Table::PmuMappings => pmu_entry(store, row).map(Entry::Pmu),

@@ -1,5 +1,5 @@
 -- What a question about a feature answers, from a store's byte order and the feature's section.
-use Rattle.std.specs.Prelude.{ℕ, List, Some, None, Ok, Err, Option, Result}
+use Rattle.std.specs.Prelude.{◌≡◌, ◌↔◌, ℕ, List, Some, None, Ok, Err, Option, Result}
 use Rattle.wire.specs.Faults.{fault_of}
 use Rattle.wire.specs.declared.order.ByteOrder.{ByteOrder}
 use Rattle.wire.specs.declared.refusal.Fault.{Fault}
@@ -22,3 +22,8 @@ mapped value (Some x) = Some (value x)
 abbrev pub answered : {X V : Type 0} → (X → V) → Result (Option X) Refusal → Result (Option V) Fault
 answered value (Ok x) = Ok (mapped value x)
 answered value (Err e) = Err (fault_of e)
+
+-- A question answers a value exactly where there is a section, and it says that value.
+abbrev pub AnswersWhatIsSaid : {V : Type 0} → (ByteOrder → List ℕ → V → Type 0) → ByteOrder → Option (List ℕ) → Result (Option V) Fault → Type 0
+AnswersWhatIsSaid {V} Says order section answer =
+    (v : V) → (answer ≡ Ok (Some v)) ↔ ((s : List ℕ) × (section ≡ Some s) × Says order s v)

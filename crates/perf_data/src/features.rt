@@ -7,6 +7,7 @@ ghost use Rattle.perf_data.specs.Features.{name_of, named};
 pub struct Feature(pub u32);
 
 impl Feature {
+    // The constants are named as perf and simpleperf name their features.
     pub const TRACING_DATA: Feature = Feature(1);
 
     pub const BUILD_ID: Feature = Feature(2);
@@ -80,9 +81,6 @@ impl Feature {
     pub const SIMPLEPERF_FILE2: Feature = Feature(132);
 
     // The name that perf or simpleperf has for the feature, if it has one.
-    // Kept: a match over the constants. An enum would need a variant for the numbers that have no name, which a store may have
-    // sections of: `Other(3)` would be a second value for HOSTNAME, and each number would stand in two more matches, from a u32
-    // and to one. A table of pairs, searched, would be as long as the match.
     pub fn name(self) -> Option<&'static str>
         ensures { named result ≡ name_of self.0 }
     {

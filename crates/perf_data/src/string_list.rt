@@ -11,9 +11,6 @@ use wire::order::{ByteOrder, tail};
 use wire::refusal::Refusal;
 
 // Texts that have all been looked at, given one after the other. The texts lie in the section and outlive the list.
-// Kept: a struct of its own beside simpleperf's `ItemList`, which reads its items by a cursor that knows a record's order
-// and size and is refused by it. Here an item that has been looked at is not refused again, and there is one kind of item:
-// one list for both would move the cursor and the trait `Listed` down here, for one impl more.
 #[derive(Clone, Copy)]
 pub struct StringList<'a> {
     order: ByteOrder,
@@ -44,8 +41,6 @@ fn check_texts(section: Section<'_>, count: u32) -> Result<(), Refusal>
 {
     let mut rest = tail(section.bytes, 4);
     for _ in 0..count {
-        // Kept: a cursor, as simpleperf's `Reader`, would need a method with a contract for a number, for a text and for this
-        // place, which is longer than the two loops that it would serve, this and that over PMUs' names in mappings.
         let at = section.bytes.len() - rest.len();
         let refused = |fault: TextFault| fault.refusal(Feature::CMDLINE.0, at as u32);
         let (_, after) = read_string(section.order, rest).map_err(refused)?;

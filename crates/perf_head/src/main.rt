@@ -16,8 +16,6 @@ const ROWS: usize = 4_096;
 const HEAD_BYTES: usize = 65_536;
 
 fn main(rt: HostRuntime) -> io::Result<()> {
-    // Kept: desk and perf_info take an image so too, up to another length: one chain of std's calls; the crate that all three could
-    // have it from would be one of its own, since the library of images, which all three lean on, reads no input and has no heap.
     let mut image = Vec::new(rt.alloc());
     rt.stdin()
         .take(LONGEST_IMAGE as u64 + 1)

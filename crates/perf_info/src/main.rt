@@ -7,8 +7,6 @@ use std::io;
 use std::io::Read;
 
 fn main(rt: HostRuntime) -> io::Result<()> {
-    // Kept: desk and perf_head take an image so too, by one chain of std's calls; the crate that all three could have it from would
-    // be one of its own, since the library of images, which all three lean on, reads no input and has no heap.
     let mut image = Vec::new(rt.alloc());
     // one byte more, which tells that the input is longer than an image
     rt.stdin().take(LONGEST as u64 + 1).read_to_end(&mut image)?;

@@ -13,8 +13,6 @@ pub(crate) fn put_items<T: Told, I: Iterator<Item = T>>(items: I, w: &mut Writer
     requires ends { IsFinite (I.remaining items) }
     ensures { PutsItems I.next_gives T.Told.bytes items w.old result w.new }
 {
-    // Kept: the loop writes the items too, and `count` or `fold` would have it write in a closure that changes the writer, with
-    // the loop's invariant said at the closure.
     let mut count = 0u32;
     for item in items {
         item.put(w);

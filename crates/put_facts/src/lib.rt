@@ -7,4 +7,5 @@ mod items;
 mod lines;
 mod parts;
 mod rows;
+pub mod tables;
 mod told;

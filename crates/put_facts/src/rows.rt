@@ -30,8 +30,6 @@ fn put_listed<L: Line>(line: &L, rows: &[Row], w: &mut Writer<'_>)
 }
 
 // The rows that a table uses, if the feature is there.
-// Kept: beside `put_answer`. A table's rows would be `Told` as a struct of the line and of the rows that are used, and a function of
-// its own would make it of `used`: longer than this.
 fn put_used<L: Line>(
     used: Result<Option<usize>, Refusal>,
     line: &L,
@@ -43,9 +41,7 @@ fn put_used<L: Line>(
     let Some(n) = used? else {
         return Ok(false);
     };
-    // Kept: `n` is any number here, and where it is above the rows all of them are taken, as by the clause's `take`. A `requires`
-    // would have each of the three tables show again that it uses no more rows than there are; why their calls answer no slice of
-    // the rows, table's `Fill::finish` says.
+    // `n` is any number here: where it is above the rows, all of them are taken.
     put_listed(line, &rows[..n.min(rows.len())], w);
     Ok(true)
 }

@@ -5,6 +5,7 @@ ghost use Rattle.replay.specs.Counted.{counted, more};
 use crate::verdict::Verdict;
 use std::fmt;
 
+// The answers of each verdict, counted.
 #[derive(Clone, Copy, Default)]
 pub struct Tally {
     pub equal: u64,
@@ -21,6 +22,7 @@ fn more(counts: bool, count: u64) -> u64
 }
 
 impl Tally {
+    // One answer more.
     pub fn with(self, verdict: Verdict) -> Tally
         ensures { result ≡ counted self verdict }
     {

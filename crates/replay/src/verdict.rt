@@ -6,6 +6,7 @@ ghost use Rattle.replay.specs.Alike.{alike, is_equal, is_memory, is_rows, refuse
 use answers::question::Question;
 use std::fmt;
 
+// Whether an answer is equal, or which known difference it shows.
 #[derive(Clone, Copy, PartialEq, Eq, Debug)]
 pub enum Verdict {
     Equal,
@@ -58,8 +59,6 @@ impl Case<'_> {
     }
 
     // A table's refusal for want of rows; no other question has one.
-    // Kept: texts, and no `Refusal`, since the contract of `judge` names these three, byte for byte: of the numbers in ours, read
-    // from it, it would not follow that they stand there.
     fn rows_refusal(self) -> Option<&'static str>
         ensures { IfSome result (λ t. refuses_rows t.now ≡ true) }
     {
@@ -82,7 +81,6 @@ impl Case<'_> {
     fn is_too_few_rows(self) -> bool
         ensures { result ≡ true → refuses_rows self.entry.ours.now ≡ true }
     {
-        // Kept: `is_some_and` was tried, and the proof did not close: which refusal the closure is handed is not known in it.
         match self.rows_refusal() {
             Some(refusal) => self.ours == refusal && self.has_more_rows(),
             None => false,
@@ -90,7 +88,6 @@ impl Case<'_> {
     }
 
     // The refusals that stand where the Rust asks for too much memory: no section holds so much.
-    // Kept: as fronts of texts: with no offset at the end they are the text of no `Refusal`, which has one.
     fn refuses_count(self) -> bool {
         match self.asked() {
             Some(Question::PmuMappings) => self.ours.starts_with("refused 11 2 16 "),
@@ -109,6 +106,7 @@ impl Case<'_> {
         self.theirs == "rust: too much memory" && self.refuses_count()
     }
 
+    // The verdict on an answer.
     pub fn judge(self) -> Verdict
         ensures equal { is_equal result ≡ alike self.entry.ours.now self.entry.theirs.now }
         ensures rows { is_rows result ≡ true → refuses_rows self.entry.ours.now ≡ true }

@@ -12,6 +12,7 @@ use image::store::Store;
 use wire::order::ByteOrder;
 use wire::refusal::NO_FEATURE;
 
+// A byte order, and the bytes of one feature.
 #[derive(Clone, Copy)]
 pub struct SectionStore<'a> {
     order: ByteOrder,
@@ -32,9 +33,7 @@ impl<'a> SectionStore<'a> {
         }
     }
 
-    // A store that lacks every section.
-    // Kept: by a number that no section has. A store that `new` makes for such a number has none already, so an `Option` of a
-    // number and bytes would be a second way to say that there is none, and `section` and the map would have a case more.
+    // A store that lacks every section: its number is one that no section has.
     pub fn absent(order: ByteOrder) -> SectionStore<'a>
         ensures order { result.order ≡ order }
         ensures sections { LacksAll (features_of result) }

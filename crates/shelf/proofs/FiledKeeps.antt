@@ -12,8 +12,8 @@ Also x g In y k = ((y ≡ x) × (k ≡ g)) ⊎ In y k
 
 module _ (F L : ℕ → ℕ) (In : Filing → ℕ → Type 0) (n : ℕ) (R T : ℕ → Row) (x : Filing) (hd : List ℕ) (i : ℕ) (v : Inv F L In n R) (is : HeadOf x hd) (o : But R i T) where
   -- of a head that is held
-  pub again : (g : ℕ) → 1 ≤ (R i).number → (R i).number ≡ g → (R i).head ≡ hd → (T i).number ≡ g → (T i).count ≡ (R i).count + 1 → (T i).head ≡ hd → Inv (λ k. one g k + F k) L (Also x g In) n T
-  again g hold num same tn tc th =
+  pub again : (g : ℕ) → 1 ≤ (R i).number → (R i).number ≡ g → (R i).head ≡ hd → (T i).number ≡ g → (R i).count < 4294967295 → (T i).count ≡ (R i).count + 1 → (T i).head ≡ hd → Inv (λ k. one g k + F k) L (Also x g In) n T
+  again g hold num same tn few tc th =
       record {
         first = v.first;
         some = λ y k f. ⊎_elim (λ e. omega (arith, one_same g k (sym e.1))) (λ e. omega (arith, v.some y k e)) f;
@@ -25,6 +25,8 @@ module _ (F L : ℕ → ℕ) (In : Filing → ℕ → Type 0) (n : ℕ) (R T : �
         only = λ a b p e. v.only a b (omega (arith, number a)) (sym (number a) ∙ e ∙ number b);
         apart = λ a b p q e. v.apart a b (omega (arith, number a)) (omega (arith, number b)) (sym (kept a) ∙ e ∙ kept b);
         heads = λ j y p f. ⊎_elim (λ e. subst (HeadOf y) (sym th ∙ ap (λ (u : ℕ). (T u).head) (v.only i j hold (num ∙ sym e.1 ∙ number j))) (subst (λ (z : Filing). HeadOf z hd) (sym e.0) is)) (λ e. subst (HeadOf y) (sym (kept j)) (v.heads j y (omega (arith, number j)) (subst (In y) (number j) e))) f;
+        most = λ j p. ⊎_elim (λ e. omega (arith, few, tc, ap (λ (u : ℕ). (T u).count) e)) (λ e. omega (arith, o.count j e, v.most j (omega (arith, number j)))) (cases_eq j i);
+        used = λ p. omega (arith, v.used p);
       }
     where
       number : (j : ℕ) → (T j).number ≡ (R j).number
@@ -47,8 +49,8 @@ module _ (F L : ℕ → ℕ) (In : Filing → ℕ → Type 0) (n : ℕ) (R T : �
           (cases_eq j i)
 
   -- of a head that no group has
-  pub anew : (R i).number ≡ 0 → ((j : ℕ) → 1 ≤ (R j).number → (R j).head ≡ hd → ⊥) → (T i).number ≡ n → (T i).count ≡ 1 → (T i).head ≡ hd → Inv (λ k. one n k + F k) L (Also x n In) (n + 1) T
-  anew vacant unlike tn tc th =
+  pub anew : n < 4294967296 → (R i).number ≡ 0 → ((j : ℕ) → 1 ≤ (R j).number → (R j).head ≡ hd → ⊥) → (T i).number ≡ n → (T i).count ≡ 1 → (T i).head ≡ hd → Inv (λ k. one n k + F k) L (Also x n In) (n + 1) T
+  anew low vacant unlike tn tc th =
       record {
         first = omega arith;
         some = λ y k f. ⊎_elim (λ e. omega (arith, one_same n k (sym e.1))) (λ e. omega (arith, v.some y k e)) f;
@@ -60,6 +62,8 @@ module _ (F L : ℕ → ℕ) (In : Filing → ℕ → Type 0) (n : ℕ) (R T : �
         only = λ a b p e. only a b p e (cases_eq a i) (cases_eq b i);
         apart = λ a b p q e. apart a b p q e (cases_eq a i) (cases_eq b i);
         heads = λ j y p f. heads j y p f (cases_eq j i);
+        most = λ j p. ⊎_elim (λ e. omega (arith, tc, ap (λ (u : ℕ). (T u).count) e)) (λ e. omega (arith, o.count j e, v.most j (omega (arith, o.number j e)))) (cases_eq j i);
+        used = λ p. omega (arith, one_same n 4294967295 (omega (arith, low, p)));
       }
     where
       none : F n ≡ 0

@@ -40,6 +40,9 @@ pub record Inv (F L : ℕ → ℕ) (In : Filing → ℕ → Type 0) (n : ℕ) (R
   pub apart : (i j : ℕ) → 1 ≤ (R i).number → 1 ≤ (R j).number → (R i).head ≡ (R j).head → i ≡ j
   -- a row has the head of all that was filed into its group
   pub heads : (j : ℕ) (x : Filing) → 1 ≤ (R j).number → In x (R j).number → HeadOf x (R j).head
+  -- a count is a u32, and where there is no next number the highest was answered
+  pub most : (j : ℕ) → 1 ≤ (R j).number → (R j).count ≤ 4294967295
+  pub used : 4294967296 ≤ n → 1 ≤ F 4294967295
 
 -- the rows T are R but for the place i
 pub record But (R : ℕ → Row) (i : ℕ) (T : ℕ → Row) : Type 0 where

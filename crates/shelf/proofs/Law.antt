@@ -1,5 +1,5 @@
 -- The law holds of every history.
-use Rattle.std.proofs.Common.{◌≡◌, ℕ, ◌+◌, ◌-◌, true, false, ltb, List, ◌∷◌, length, take, drop, Some, None, Ok, Err, Option, Result, sym, refl, ap, ◌∙◌, subst, inl, inr, ⊎_elim, arith}
+use Rattle.std.proofs.Common.{◌≡◌, ℕ, ◌+◌, ◌-◌, ◌≤◌, true, false, ltb, List, ◌∷◌, length, take, drop, Some, None, Ok, Err, Option, Result, sym, refl, ap, ◌∙◌, subst, inl, inr, ⊎_elim, arith}
 use Rattle.std.proofs.lemmas.List.{take_at}
 use Rattle.std.proofs.lemmas.Bool.{cases_Bool, cases_lt, cond-true, cond-false, lt-ltb, le-ltb}
 use Rattle.wire.specs.declared.refusal.Fault.{Fault}
@@ -13,7 +13,8 @@ use Rattle.shelf.specs.Histories.Ran.{opened, went}
 use Rattle.shelf.specs.Law.{filings, releases, HeldIn, UnheldIn, FiledIn, SameFacts, SpeaksForAll, Files, Says, Lawful, Holding, Lacking, Keeps, Goes, Continues}
 use Rattle.shelf.proofs.Groups.{At, Stands, place-stands}
 use Rattle.shelf.proofs.Invariant.{HeadOf, one_same}
-use Rattle.shelf.proofs.Runs.{inv}
+use Rattle.shelf.proofs.Refusals.{refused_why}
+use Rattle.shelf.proofs.Runs.{inv, same, strip_short}
 use Rattle.shelf.proofs.Seats.{Joins, Takes, number_new, number-held}
 use Rattle.shelf.proofs.Steps.{InvOf, Taken, taken, step}
 
@@ -51,32 +52,32 @@ module _ (speak : HeadsSpeak) where
       )
 
   -- what is answered by the place that a group has
-  released_says : (h : History) (c : Contents) (g : ℕ) (a : Result (Unit {0}) Fault) (o : Option ℕ) → InvOf h c → Stands c g o → a ≡ release_at o → Says h (released g a)
-  released_says h c g a (Some i) v s e = subst (λ (r : Result (Unit {0}) Fault). Says h (released g r)) (sym e) (holding h c g i v s).0
-  released_says h c g a None v s e = subst (λ (r : Result (Unit {0}) Fault). Says h (released g r)) (sym e) (refl, lacking h c g v s)
+  released_says : (h : History) (c : Contents) (g : ℕ) (a : Result (Unit {0}) Fault) (o : Option ℕ) → InvOf h c → Stands c g o → a ≡ release_at o → Says c.strip (length c.rows) h (released g a)
+  released_says h c g a (Some i) v s e = subst (λ (r : Result (Unit {0}) Fault). Says c.strip (length c.rows) h (released g r)) (sym e) (holding h c g i v s).0
+  released_says h c g a None v s e = subst (λ (r : Result (Unit {0}) Fault). Says c.strip (length c.rows) h (released g r)) (sym e) (refl, lacking h c g v s)
 
-  counted_says : (h : History) (c : Contents) (g : ℕ) (a : Result ℕ Fault) (o : Option ℕ) → InvOf h c → Stands c g o → a ≡ count_at c o → Says h (counted g a)
-  counted_says h c g a (Some i) v s e = subst (λ (r : Result ℕ Fault). Says h (counted g r)) (sym e) (holding h c g i v s)
-  counted_says h c g a None v s e = subst (λ (r : Result ℕ Fault). Says h (counted g r)) (sym e) (refl, lacking h c g v s)
+  counted_says : (h : History) (c : Contents) (g : ℕ) (a : Result ℕ Fault) (o : Option ℕ) → InvOf h c → Stands c g o → a ≡ count_at c o → Says c.strip (length c.rows) h (counted g a)
+  counted_says h c g a (Some i) v s e = subst (λ (r : Result ℕ Fault). Says c.strip (length c.rows) h (counted g r)) (sym e) (holding h c g i v s)
+  counted_says h c g a None v s e = subst (λ (r : Result ℕ Fault). Says c.strip (length c.rows) h (counted g r)) (sym e) (refl, lacking h c g v s)
 
-  shown_says : (h : History) (c : Contents) (g : ℕ) (out by : List ℕ) (a : Result ℕ Fault) (o : Option ℕ) → InvOf h c → Stands c g o → a ≡ length_of (show_at c (length out) o) → by ≡ ahead (show_at c (length out) o) out → Says h (shown g out a by)
+  shown_says : (h : History) (c : Contents) (g : ℕ) (out by : List ℕ) (a : Result ℕ Fault) (o : Option ℕ) → InvOf h c → Stands c g o → a ≡ length_of (show_at c (length out) o) → by ≡ ahead (show_at c (length out) o) out → Says c.strip (length c.rows) h (shown g out a by)
   shown_says h c g out by a None v s e f =
-      subst (λ (r : Result ℕ Fault). Says h (shown g out r by)) (sym e) (inl (refl, lacking h c g v s))
+      subst (λ (r : Result ℕ Fault). Says c.strip (length c.rows) h (shown g out r by)) (sym e) (inl (refl, lacking h c g v s))
   shown_says h c g out by a (Some i) v s e f = ⊎_elim long fits (cases_Bool (ltb (length out) (length (row_in c i).head)))
     where
       hd : List ℕ
       hd = (row_in c i).head
 
-      long : ltb (length out) (length hd) ≡ true → Says h (shown g out a by)
+      long : ltb (length out) (length hd) ≡ true → Says c.strip (length c.rows) h (shown g out a by)
       long t =
-          subst (λ (r : Result ℕ Fault). Says h (shown g out r by)) (sym (e ∙ ap length_of (cond-true (ltb (length out) (length hd)) (refused 32) (Ok hd) t)))
+          subst (λ (r : Result ℕ Fault). Says c.strip (length c.rows) h (shown g out r by)) (sym (e ∙ ap length_of (cond-true (ltb (length out) (length hd)) (refused 32) (Ok hd) t)))
           (inr (refl, (holding h c g i v s).0))
 
-      fits : ltb (length out) (length hd) ≡ false → Says h (shown g out a by)
+      fits : ltb (length out) (length hd) ≡ false → Says c.strip (length c.rows) h (shown g out a by)
       fits t =
           let whole = cond-false (ltb (length out) (length hd)) (refused 32) (Ok hd) t in
           let front : take (length hd) by ≡ hd = ap (take (length hd)) (f ∙ ap (λ (r : Result (List ℕ) Fault). ahead r out) whole) ∙ take_at hd (drop (length hd) out) (length hd) refl in
-          subst (λ (r : Result ℕ Fault). Says h (shown g out r by)) (sym (e ∙ ap length_of whole))
+          subst (λ (r : Result ℕ Fault). Says c.strip (length c.rows) h (shown g out r by)) (sym (e ∙ ap length_of whole))
           ((holding h c g i v s).0, subst (λ (b : List ℕ). SpeaksForAll b g h) (sym front) (speaks h c g i v s))
 
   -- a filing joins a group that is held, or takes a number above all before
@@ -97,17 +98,20 @@ module _ (speak : HeadsSpeak) where
           let new : g ≡ c.next = t.number ∙ sym (number_new c t.place j.vacant) in
           record { holds = omega (arith, v.least g, one_same g g refl); once = λ p. absurd (omega (arith, (v.fresh g p).1)); rises = λ z k p. omega (arith, (v.fresh k p).1) }
 
-  says : (h : History) (c : Contents) (e : Event) (d : Contents) → InvOf h c → Step c e d → Says h e
-  says h c (filed x (Ok g)) d v s = filed_says h c x g v s.0
-  says h c (filed x (Err e)) d v s = tt
-  says h c (released g a) d v s = released_says h c g a (place_of c g) v (place-stands c g) s.0
-  says h c (counted g a) d v s = counted_says h c g a (place_of c g) v (place-stands c g) s.0
-  says h c (shown g out a by) d v s = shown_says h c g out by a (place_of c g) v (place-stands c g) s.0 s.1
+  says : (h : History) (c : Contents) (e : Event) (d : Contents) → c.strip ≤ 65536 → InvOf h c → Step c e d → Says c.strip (length c.rows) h e
+  says h c (filed x (Ok g)) d short v s = filed_says h c x g v s.0
+  says h c (filed x (Err e)) d short v s = refused_why speak h c x e v short s.0
+  says h c (released g a) d short v s = released_says h c g a (place_of c g) v (place-stands c g) s.0
+  says h c (counted g a) d short v s = counted_says h c g a (place_of c g) v (place-stands c g) s.0
+  says h c (shown g out a by) d short v s = shown_says h c g out by a (place_of c g) v (place-stands c g) s.0 s.1
 
-  lawful : (h : History) (c : Contents) → Ran h c → Lawful h
-  lawful h c (opened strip first bytes d e) = tt
+  lawful : (h : History) (c : Contents) → Ran h c → Lawful c.strip (length c.rows) h
+  lawful h c (opened strip first bytes d few e) = tt
   lawful h c (went k b e d r s) =
-      (says k b e c (inv k b r) s, same_facts (e ∷ k) c (step k b e c (inv k b r) s), lawful k b r)
+      let alike = same b e c s in
+      subst (λ (z : ℕ). Lawful z (length c.rows) (e ∷ k)) (sym alike.strip)
+      (subst (λ (n : ℕ). Lawful b.strip n (e ∷ k)) (sym alike.strips)
+      (says k b e c (strip_short k b r) (inv k b r) s, same_facts (e ∷ k) c (step k b e c (inv k b r) s), lawful k b r))
 
   -- what the shelf answers now
   stands-held : (h : History) (c : Contents) (g : ℕ) (o : Option ℕ) → InvOf h c → HeldIn g h → Stands c g o → (i : ℕ) × (o ≡ Some i) × At c g i

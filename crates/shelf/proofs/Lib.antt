@@ -14,6 +14,7 @@ pub mod ReleasedKeeps
 pub mod Groups
 pub mod Steps
 pub mod Runs
+pub mod Refusals
 pub mod Law
 pub mod Clients
 pub mod Wholes

@@ -1,12 +1,10 @@
 -- The rows of a shelf, by place.
-use Rattle.std.proofs.Common.{◌≡◌, ℕ, suc, ◌+◌, ◌*◌, ◌^◌, ◌<◌, ◌≤◌, Bool, not, List, length, get_or, count_by, take, drop, Some, None, Option, vec_items, vec_len, sym, refl, ap, ◌∙◌, subst, mul-le-mul_right, suc-mul, arith, rules}
+use Rattle.std.proofs.Common.{◌≡◌, ℕ, suc, ◌+◌, ◌*◌, ◌^◌, ◌<◌, ◌≤◌, Bool, not, List, length, get_or, count_by, take, drop, vec_items, vec_len, sym, refl, ap, ◌∙◌, subst, mul-le-mul_right, suc-mul, arith, rules}
 use Rattle.std.proofs.lemmas.List.FromFn.{length-map-range_with_len, get_or-map-range_with_len}
 use Rattle.std.proofs.lemmas.List.{get_or-take, length-take, length-take-le, take-take, places}
-use Rattle.std.proofs.lemmas.Bool.{ne_eqb}
-use Rattle.std.specs.Option.{is_some, is_none}
 use Rattle.shelf.specs.declared.shelf.Group.{Group}
 use Rattle.shelf.specs.declared.shelf.Shelf.TheInside.{Inside}
-use Rattle.shelf.specs.Rows.{Row, row_at, row_of, strip_at, FitsStrip}
+use Rattle.shelf.specs.Rows.{Row, free, is_free, is_held, row_at, row_of, strip_at}
 use Rattle.shelf.specs.Contents.{Contents, row_in, blank}
 use Rattle.shelf.specs.Strips.{contents, Sound}
 use Rattle.shelf.specs.Stands.{StandsAt}
@@ -46,73 +44,61 @@ module _ (s : Inside) (c : Contents) (is : contents s ≡ c) where
   strip_small i o l = omega (arith, strip_room i o l, s.bytes.ok.1, s.bytes.small)
 
   -- the groups and the rows, place by place
-  by_place : (t : Option Group → Bool) (p : Row → Bool) → Sound s → ((j : ℕ) → j < s.strips → t (get_or s.groups j None) ≡ p (row_standing s j)) → (length (take s.strips s.groups) ≡ length c.rows) × ((j : ℕ) → j < length (take s.strips s.groups) → t (get_or (take s.strips s.groups) j None) ≡ p (get_or c.rows j (blank 0)))
+  by_place : (t : Group → Bool) (p : Row → Bool) → Sound s → ((j : ℕ) → j < s.strips → t (get_or s.groups j free) ≡ p (row_standing s j)) → (length (take s.strips s.groups) ≡ length c.rows) × ((j : ℕ) → j < length (take s.strips s.groups) → t (get_or (take s.strips s.groups) j free) ≡ p (get_or c.rows j (blank 0)))
   by_place t p o same =
       let long : length (take s.strips s.groups) ≡ s.strips = length-take-le s.strips s.groups (omega (arith, o.few, o.places)) in
-      (long ∙ sym rows_length, λ j l. let k : j < s.strips = omega (arith, long) in ap t (get_or-take s.strips s.groups j None k) ∙ same j k ∙ ap p (sym (row_on j k)))
+      (long ∙ sym rows_length, λ j l. let k : j < s.strips = omega (arith, long) in ap t (get_or-take s.strips s.groups j free k) ∙ same j k ∙ ap p (sym (row_on j k)))
 
   -- so a look-up among the groups finds the place that one among the rows does
-  first_on : (t : Option Group → Bool) (p : Row → Bool) → Sound s → ((j : ℕ) → j < s.strips → t (get_or s.groups j None) ≡ p (row_standing s j)) → first_with t (take s.strips s.groups) ≡ first_with p c.rows
+  first_on : (t : Group → Bool) (p : Row → Bool) → Sound s → ((j : ℕ) → j < s.strips → t (get_or s.groups j free) ≡ p (row_standing s j)) → first_with t (take s.strips s.groups) ≡ first_with p c.rows
   first_on t p o same =
-      let b = by_place t p o same in first_same t p (take s.strips s.groups) c.rows None (blank 0) b.0 b.1
+      let b = by_place t p o same in first_same t p (take s.strips s.groups) c.rows free (blank 0) b.0 b.1
 
-  free_row : (strip : ℕ) (b : List ℕ) (slot : Option Group) → FitsStrip strip slot → is_none slot ≡ is_numbered 0 (row_of slot b)
-  free_row strip b None f = refl
-  free_row strip b (Some x) f = sym (ne_eqb x.number 0 (λ e. omega (arith, f.0)))
+  pub free_on : Sound s → first_with is_free (take s.strips s.groups) ≡ first_with (is_numbered 0) c.rows
+  free_on o = first_on is_free (is_numbered 0) o (λ j l. refl)
 
-  held_row : (strip : ℕ) (b : List ℕ) (slot : Option Group) → FitsStrip strip slot → is_some slot ≡ not (is_numbered 0 (row_of slot b))
-  held_row strip b None f = refl
-  held_row strip b (Some x) f = ap not (sym (ne_eqb x.number 0 (λ e. omega (arith, f.0))))
-
-  pub free_on : Sound s → first_with is_none (take s.strips s.groups) ≡ first_with (is_numbered 0) c.rows
-  free_on o =
-      first_on is_none (is_numbered 0) o (λ j l. free_row s.strip (strip_at s.strip (vec_items s.bytes) j) (get_or s.groups j None) (o.fits j))
-
-  pub held_on : Sound s → count_by is_some (take s.strips s.groups) ≡ held c.rows
+  pub held_on : Sound s → count_by is_held (take s.strips s.groups) ≡ held c.rows
   held_on o =
-      let b = by_place is_some (λ r. not (is_numbered 0 r)) o (λ j l. held_row s.strip (strip_at s.strip (vec_items s.bytes) j) (get_or s.groups j None) (o.fits j)) in
+      let b = by_place is_held (λ r. not (is_numbered 0 r)) o (λ j l. refl) in
       count_same (take s.strips s.groups) c.rows b.0 b.1
 
   -- the group of a place stands there
-  pub stands : (i : ℕ) (g : Group) → Sound s → i < s.strips → get_or s.groups i None ≡ Some g → StandsAt c i g
-  stands i g o l e =
-      let f : FitsStrip s.strip (Some g) = subst (FitsStrip s.strip) e (o.fits i) in
+  pub stands : (i : ℕ) (g : Group) → Sound s → i < s.strips → get_or s.groups i free ≡ g → 1 ≤ g.number → StandsAt c i g
+  stands i g o l e some =
+      let f : g.len ≤ s.strip = subst (λ (x : Group). x.len ≤ s.strip) e (o.fits i) in
       let bytes : length (strip_at s.strip (vec_items s.bytes) i) ≡ s.strip = length-strip (i * s.strip) s.strip (vec_items s.bytes) (omega (arith, strip_end i s.strips s.strip l, o.room, s.bytes.ok.0)) in
-      let row : row_in c i ≡ row_of (Some g) (strip_at s.strip (vec_items s.bytes) i) = row_on i l ∙ ap (λ (x : Option Group). row_of x (strip_at s.strip (vec_items s.bytes) i)) e in
+      let row : row_in c i ≡ row_of g (strip_at s.strip (vec_items s.bytes) i) = row_on i l ∙ ap (λ (x : Group). row_of x (strip_at s.strip (vec_items s.bytes) i)) e in
       record {
         place = omega (arith, rows_length);
         few = omega (arith, rows_length, o.few);
-        held = f.0;
+        held = some;
         number = ap (λ (r : Row). r.number) row;
         count = ap (λ (r : Row). r.count) row;
-        head = ap (λ (r : Row). length r.head) row ∙ length-take-le g.len (strip_at s.strip (vec_items s.bytes) i) (omega (arith, f.1, bytes));
+        head = ap (λ (r : Row). length r.head) row ∙ length-take-le g.len (strip_at s.strip (vec_items s.bytes) i) (omega (arith, f, bytes));
       }
 
   -- a head is within its strip
-  head_inside : (b : List ℕ) (slot : Option Group) → length (row_of slot b).head ≤ length b
-  head_inside b None = omega arith
-  head_inside b (Some g) = omega (arith, length-take g.len b)
+  head_inside : (b : List ℕ) (g : Group) → length (row_of g b).head ≤ length b
+  head_inside b g = omega (arith, length-take g.len b)
 
   pub head_within : (i : ℕ) → Sound s → i < length c.rows → length (row_in c i).head ≤ s.strip
   head_within i o l =
       let bytes : length (strip_at s.strip (vec_items s.bytes) i) ≡ s.strip = length-strip (i * s.strip) s.strip (vec_items s.bytes) (omega (arith, strip_room i o l, s.bytes.ok.0)) in
-      omega (arith, ap (λ (r : Row). length r.head) (row_on i (on_strip i l)), head_inside (strip_at s.strip (vec_items s.bytes) i) (get_or s.groups i None), bytes)
+      omega (arith, ap (λ (r : Row). length r.head) (row_on i (on_strip i l)), head_inside (strip_at s.strip (vec_items s.bytes) i) (get_or s.groups i free), bytes)
 
   -- and none stands at a free one
-  pub free_at : (i : ℕ) → i < s.strips → get_or s.groups i None ≡ None → (row_in c i).number ≡ 0
-  free_at i l e =
-      ap (λ (r : Row). r.number) (row_on i l ∙ ap (λ (x : Option Group). row_of x (strip_at s.strip (vec_items s.bytes) i)) e)
+  pub free_at : (i : ℕ) → i < s.strips → (get_or s.groups i free).number ≡ 0 → (row_in c i).number ≡ 0
+  free_at i l e = ap (λ (r : Row). r.number) (row_on i l) ∙ e
 
   -- the head of the group that stands there
-  head_of_slot : (strip : ℕ) (bytes : List ℕ) (slot : Option Group) (g : Group) → 1 ≤ g.number → (row_of slot (take strip bytes)).number ≡ g.number → length (row_of slot (take strip bytes)).head ≡ g.len → FitsStrip strip slot → length (take strip bytes) ≡ strip → take g.len bytes ≡ (row_of slot (take strip bytes)).head
-  head_of_slot strip bytes None g p e h f k = absurd (omega arith)
-  head_of_slot strip bytes (Some x) g p e h f k =
-      let l : g.len ≡ x.len = omega (arith, h, length-take-le x.len (take strip bytes) (omega (arith, f.1))) in
-      ap (λ (n : ℕ). take n bytes) l ∙ sym (take-take x.len strip bytes f.1)
+  head_of_row : (strip : ℕ) (bytes : List ℕ) (x g : Group) → length (row_of x (take strip bytes)).head ≡ g.len → x.len ≤ strip → length (take strip bytes) ≡ strip → take g.len bytes ≡ (row_of x (take strip bytes)).head
+  head_of_row strip bytes x g h f k =
+      let l : g.len ≡ x.len = omega (arith, h, length-take-le x.len (take strip bytes) (omega arith)) in
+      ap (λ (n : ℕ). take n bytes) l ∙ sym (take-take x.len strip bytes f)
 
   pub head_on : (i : ℕ) (g : Group) → Sound s → StandsAt c i g → take g.len (drop (i * s.strip) (vec_items s.bytes)) ≡ (row_in c i).head
   head_on i g o a =
       let row = row_on i (on_strip i a.place) in
       let bytes : length (strip_at s.strip (vec_items s.bytes) i) ≡ s.strip = length-strip (i * s.strip) s.strip (vec_items s.bytes) (omega (arith, strip_room i o a.place, s.bytes.ok.0)) in
-      head_of_slot s.strip (drop (i * s.strip) (vec_items s.bytes)) (get_or s.groups i None) g a.held (ap (λ (r : Row). r.number) (sym row) ∙ a.number) (ap (λ (r : Row). length r.head) (sym row) ∙ a.head) (o.fits i) bytes
+      head_of_row s.strip (drop (i * s.strip) (vec_items s.bytes)) (get_or s.groups i free) g (ap (λ (r : Row). length r.head) (sym row) ∙ a.head) (o.fits i) bytes
       ∙ ap (λ (r : Row). r.head) (sym row)

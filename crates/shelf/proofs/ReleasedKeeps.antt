@@ -24,6 +24,8 @@ module _ (F L : ℕ → ℕ) (In : Filing → ℕ → Type 0) (n : ℕ) (R T : �
         only = λ a b p e. v.only a b (omega (arith, number a)) (sym (number a) ∙ e ∙ number b);
         apart = λ a b p q e. v.apart a b (omega (arith, number a)) (omega (arith, number b)) (sym (kept a) ∙ e ∙ kept b);
         heads = λ j y p f. subst (HeadOf y) (sym (kept j)) (v.heads j y (omega (arith, number j)) (subst (In y) (number j) f));
+        most = λ j p. ⊎_elim (λ e. omega (arith, tc, v.most i hold, ap (λ (u : ℕ). (T u).count) e)) (λ e. omega (arith, o.count j e, v.most j (omega (arith, number j)))) (cases_eq j i);
+        used = v.used;
       }
     where
       at : (R i).count + L g ≡ F g
@@ -56,6 +58,8 @@ module _ (F L : ℕ → ℕ) (In : Filing → ℕ → Type 0) (n : ℕ) (R T : �
         only = λ a b p e. let d = moved a p in let c = moved b (omega arith) in v.only a b (omega (arith, o.number a d)) (sym (o.number a d) ∙ e ∙ o.number b c);
         apart = λ a b p q e. let d = moved a p in let c = moved b q in v.apart a b (omega (arith, o.number a d)) (omega (arith, o.number b c)) (sym (o.head a d) ∙ e ∙ o.head b c);
         heads = λ j y p f. let d = moved j p in subst (HeadOf y) (sym (o.head j d)) (v.heads j y (omega (arith, o.number j d)) (subst (In y) (o.number j d) f));
+        most = λ j p. let d = moved j p in omega (arith, o.count j d, v.most j (omega (arith, o.number j d)));
+        used = v.used;
       }
     where
       at : (R i).count + L g ≡ F g

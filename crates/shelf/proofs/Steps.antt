@@ -40,11 +40,11 @@ taken c (Ok h) g e = taken_at c h g (seat_for c h) refl e
 taken c (Err x) g e = let z : ◌≡◌ {A = ℕ} 0 1 = cc in absurd (omega arith)
 
 -- one that is refused did nothing
-not_seated : (c : Contents) (h : List ℕ) (e : Fault) (r : Result ℕ Fault) → Err e ≡ number_of c r → seated_at c h r ≡ c
+pub not_seated : (c : Contents) (h : List ℕ) (e : Fault) (r : Result ℕ Fault) → Err e ≡ number_of c r → seated_at c h r ≡ c
 not_seated c h e (Ok i) f = let z : ◌≡◌ {A = ℕ} 0 1 = cc in absurd (omega arith)
 not_seated c h e (Err x) f = refl
 
-not_taken : (c : Contents) (from : Result (List ℕ) Fault) (e : Fault) → Err e ≡ file_answer c from → file_after c from ≡ c
+pub not_taken : (c : Contents) (from : Result (List ℕ) Fault) (e : Fault) → Err e ≡ file_answer c from → file_after c from ≡ c
 not_taken c (Ok h) e f = not_seated c h e (seat_for c h) f
 not_taken c (Err x) e f = refl
 
@@ -63,7 +63,7 @@ joined h c x hd g i v is s e =
     let r : Row = recount (row_in c i) ((row_in c i).count + 1) in
     let here = row_here c i r s.place in
     subst (InvOf (filed x (Ok g) ∷ h)) (seated-held c i held hd _ refl)
-    (again _ _ _ c.next (row_in c) (row_in (put c i r)) x hd i v is (rows_but c i r) g s.held num s.same (ap (λ (y : Row). y.number) here ∙ num) (ap (λ (y : Row). y.count) here) (ap (λ (y : Row). y.head) here ∙ s.same))
+    (again _ _ _ c.next (row_in c) (row_in (put c i r)) x hd i v is (rows_but c i r) g s.held num s.same (ap (λ (y : Row). y.number) here ∙ num) s.room (ap (λ (y : Row). y.count) here) (ap (λ (y : Row). y.head) here ∙ s.same))
 
 -- or makes one
 made_new : (h : History) (c : Contents) (x : Filing) (hd : List ℕ) (g i : ℕ) → InvOf h c → HeadOf x hd → Takes c hd i → g ≡ number_at c i → InvOf (filed x (Ok g) ∷ h) (seated c hd i)
@@ -73,7 +73,7 @@ made_new h c x hd g i v is s e =
     let here = row_here c i r s.place in
     subst (InvOf (filed x (Ok g) ∷ h)) (seated_new c i s.vacant hd c.next refl)
     (subst (λ (k : ℕ). InvOf (filed x (Ok k) ∷ h) (handed_out (put c i r))) (sym new)
-    (anew _ _ _ c.next (row_in c) (row_in (put c i r)) x hd i v is (rows_but c i r) s.vacant (λ j p. s.unlike j (inside c j p) p) (ap (λ (y : Row). y.number) here) (ap (λ (y : Row). y.count) here) (ap (λ (y : Row). y.head) here)))
+    (anew _ _ _ c.next (row_in c) (row_in (put c i r)) x hd i v is (rows_but c i r) s.number s.vacant (λ j p. s.unlike j (inside c j p) p) (ap (λ (y : Row). y.number) here) (ap (λ (y : Row). y.count) here) (ap (λ (y : Row). y.head) here)))
 
 -- a release at the group's place
 left : (h : History) (c : Contents) (u : Unit {0}) (g i : ℕ) → InvOf h c → At c g i → InvOf (released g (Ok u) ∷ h) (lowered c i)

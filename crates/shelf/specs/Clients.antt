@@ -1,8 +1,8 @@
 -- What two filings into a new shelf, one after the other, come to.
-use Rattle.std.specs.Prelude.{ℕ, Bool, cond, List, length, Ok, Err, Result, ◌==◌}
+use Rattle.std.specs.Prelude.{ℕ, Bool, List, Ok, Err, Result, ◌==◌}
 use Rattle.wire.specs.declared.refusal.Fault.{Fault}
 use Rattle.shelf.specs.Contents.{Contents}
-use Rattle.shelf.specs.Calls.{in_bounds, open_answer, opening, file_answer, file_after}
+use Rattle.shelf.specs.Calls.{open_answer, opening, file_answer, file_after}
 use Rattle.shelf.specs.Histories.{Filing, head_in}
 
 -- Whether two filings were answered with the same number; the first refusal is the answer.
@@ -21,7 +21,3 @@ once_open (Err e) r = Err e
 -- Over these bytes, with strips of one length and the number 1 for the first group.
 abbrev pub compared : ℕ → List ℕ → Filing → Filing → Result Bool Fault
 compared strip bytes x y = once_open (open_answer strip 1 bytes) (one_then_other (opening strip 1 bytes) x y)
-
--- What was lent for the filings is clean after them; where the opening is refused nothing is filed, and it is as it was.
-abbrev pub if_filed : {X : Type 0} → ℕ → List ℕ → List X → List X → List X
-if_filed strip bytes clean old = cond (in_bounds strip 1 (length bytes)) clean old

@@ -1,5 +1,5 @@
 -- What can happen to a shelf: it is opened, and then called in any order.
-use Rattle.std.specs.Prelude.{◌≡◌, ℕ, List, [], ◌∷◌, length, Result}
+use Rattle.std.specs.Prelude.{◌≡◌, ℕ, ◌≤◌, List, [], ◌∷◌, length, Result}
 use Rattle.wire.specs.declared.order.ByteOrder.{ByteOrder}
 use Rattle.wire.specs.declared.refusal.Fault.{Fault}
 use Rattle.image.specs.Held.{Features}
@@ -39,7 +39,8 @@ Step c (counted g a) d = (a ≡ count_answer c g) × (d ≡ c)
 Step c (shown g out a by) d =
     (a ≡ length_of (head_shown c g (length out))) × (by ≡ ahead (head_shown c g (length out)) out) × (d ≡ c)
 
--- A shelf holds what the calls of a history, after an opening, have led to. The opening may have been refused.
+-- A shelf holds what the calls of a history, after an opening, have led to. The opening may have been refused; its first
+-- number is a u32.
 pub data Ran : History → Contents → Type 0 where
-  opened : (strip first : ℕ) (bytes : List ℕ) (c : Contents) → c ≡ opening strip first bytes → Ran [] c
+  opened : (strip first : ℕ) (bytes : List ℕ) (c : Contents) → first ≤ 4294967295 → c ≡ opening strip first bytes → Ran [] c
   went : (h : History) (c : Contents) (e : Event) (d : Contents) → Ran h c → Step c e d → Ran (e ∷ h) d

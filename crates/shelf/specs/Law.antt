@@ -2,6 +2,8 @@
 use Rattle.std.specs.Prelude.{◌≡◌, ℕ, ◌+◌, ◌-◌, ◌<◌, ◌≤◌, cond, ◌⊎◌, List, [], ◌∷◌, length, take, Ok, Err, ◌==◌}
 use Rattle.wire.specs.Faults.{state_fault}
 use Rattle.wire.specs.declared.order.ByteOrder.TheVariants.{Little}
+use Rattle.wire.specs.declared.refusal.Fault.{Fault}
+use Rattle.facts.specs.Head.{head_of}
 use Rattle.facts.specs.Laws.{head_sections, Alike, Speaks}
 use Rattle.shelf.specs.Contents.{Contents}
 use Rattle.shelf.specs.Calls.{refused, release_answer, count_answer, head_shown}
@@ -67,7 +69,8 @@ SpeaksFor head x = Speaks x.rows x.order x.features head
 abbrev pub AnswersFor : List ℕ → ℕ → Filing → Type 0
 AnswersFor head n x = Alike n Little (head_sections head) x.rows x.order x.features.at
 
--- So it does for every store filed into its group, with as many rows as any of the group's filings had.
+-- So it does for every store filed into its group, with as many rows as any of the group's filings had. With as many rows the
+-- head call, given the head as an image, writes the head again (`again` of `Speaks`).
 abbrev pub SpeaksForAll : List ℕ → ℕ → History → Type 0
 SpeaksForAll head g h = (x : Filing) → FiledIn x g h → SpeaksFor head x × ((y : Filing) → FiledIn y g h → AnswersFor head y.rows x)
 
@@ -80,21 +83,46 @@ pub record Files (h : History) (x : Filing) (g : ℕ) : Type 0 where
   pub once : 1 ≤ filings g h → HeldIn g h
   pub rises : filings g h ≡ 0 → (k : ℕ) → 1 ≤ filings k h → k < g
 
-abbrev pub Says : History → Event → Type 0
-Says h (filed x (Ok g)) = Files h x g
-Says h (filed x (Err e)) = Unit {0}
-Says h (released g (Ok u)) = HeldIn g h
-Says h (released g (Err e)) = (e ≡ state_fault 34 256) × UnheldIn g h
-Says h (counted g (Ok n)) = HeldIn g h × (n ≡ filings g h - releases g h)
-Says h (counted g (Err e)) = (e ≡ state_fault 34 256) × UnheldIn g h
-Says h (shown g out (Ok n) by) = HeldIn g h × SpeaksForAll (take n by) g h
-Says h (shown g out (Err e) by) =
+-- The group's head is that of the filing: all that was filed into it answers alike.
+abbrev pub SameAs : Filing → ℕ → History → Type 0
+SameAs x g h = (y : Filing) → FiledIn y g h → AlikeFiled x y
+
+-- The filing's head is new: nothing that was filed into a held group answers alike.
+abbrev pub NewIn : Filing → History → Type 0
+NewIn x h = (y : Filing) (g : ℕ) → FiledIn y g h → HeldIn g h → AlikeFiled x y → ⊥
+
+-- So many groups are held at least: one for each number below n, no two the same.
+pub record ManyHeld (n : ℕ) (h : History) : Type 0 where
+  pub group : ℕ → ℕ
+  pub held : (i : ℕ) → i < n → HeldIn (group i) h
+  pub distinct : (i j : ℕ) → i < n → j < n → group i ≡ group j → i ≡ j
+
+-- Why a shelf of so many strips of one length refuses a filing: the store has no head, and the refusal is the head call's own,
+-- with a number up to 31; or its head is longer than a strip, or the work bytes are fewer; or its group has as many filings
+-- that were not released as a count can say; or its head is new, and as many groups are held as there are strips, or the
+-- highest number was answered already.
+pub data WhyRefused (strip strips : ℕ) (h : History) (x : Filing) (e : Fault) : Type 0 where
+  no_head : head_of x.rows x.order x.features.at ≡ Err e → e.number ≤ 31 → WhyRefused strip strips h x e
+  no_room : e ≡ state_fault 32 256 → (head : List ℕ) → head_of x.rows x.order x.features.at ≡ Ok head → (strip < length head) ⊎ (x.work < strip) → WhyRefused strip strips h x e
+  count_full : e ≡ state_fault 35 256 → (g : ℕ) → SameAs x g h → filings g h - releases g h ≡ 4294967295 → WhyRefused strip strips h x e
+  no_free_strip : e ≡ state_fault 33 256 → NewIn x h → ManyHeld strips h → WhyRefused strip strips h x e
+  numbers_used_up : e ≡ state_fault 36 256 → NewIn x h → 1 ≤ filings 4294967295 h → WhyRefused strip strips h x e
+
+abbrev pub Says : ℕ → ℕ → History → Event → Type 0
+Says strip strips h (filed x (Ok g)) = Files h x g
+Says strip strips h (filed x (Err e)) = WhyRefused strip strips h x e
+Says strip strips h (released g (Ok u)) = HeldIn g h
+Says strip strips h (released g (Err e)) = (e ≡ state_fault 34 256) × UnheldIn g h
+Says strip strips h (counted g (Ok n)) = HeldIn g h × (n ≡ filings g h - releases g h)
+Says strip strips h (counted g (Err e)) = (e ≡ state_fault 34 256) × UnheldIn g h
+Says strip strips h (shown g out (Ok n) by) = HeldIn g h × SpeaksForAll (take n by) g h
+Says strip strips h (shown g out (Err e) by) =
     ((e ≡ state_fault 34 256) × UnheldIn g h) ⊎ ((e ≡ state_fault 32 256) × HeldIn g h)
 
--- At each moment of the history all that was true.
-abbrev pub Lawful : History → Type 0
-Lawful [] = Unit {0}
-Lawful (e ∷ h) = Says h e × SameFacts (e ∷ h) × Lawful h
+-- At each moment of the history of a shelf of so many strips of one length all that was true.
+abbrev pub Lawful : ℕ → ℕ → History → Type 0
+Lawful strip strips [] = Unit {0}
+Lawful strip strips (e ∷ h) = Says strip strips h e × SameFacts (e ∷ h) × Lawful strip strips h
 
 -- 5. What the shelf answers now
 
@@ -121,7 +149,7 @@ pub record Keeps (h : History) (c : Contents) : Type 0 where
 
 pub record Goes (h : History) (c : Contents) : Type 0 where
   pub ran : Ran h c
-  pub lawful : Lawful h
+  pub lawful : Lawful c.strip (length c.rows) h
   pub same : SameFacts h
   pub keeps : Keeps h c
 

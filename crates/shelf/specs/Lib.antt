@@ -2,6 +2,7 @@ pub mod Rows
 pub mod Contents
 pub mod Strips
 pub mod Calls
+pub mod Keeping
 pub mod Histories
 pub mod Clients
 pub mod Law

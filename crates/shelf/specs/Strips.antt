@@ -3,7 +3,7 @@ use Rattle.std.specs.Prelude.{◌≡◌, ℕ, ◌*◌, ◌≤◌, List, ◌++◌
 use Rattle.std.specs.List.{range_with_len, flat_map}
 use Rattle.shelf.specs.declared.shelf.Group.{Group}
 use Rattle.shelf.specs.declared.shelf.Shelf.TheInside.{Inside}
-use Rattle.shelf.specs.Rows.{Row, row_at, FitsStrip}
+use Rattle.shelf.specs.Rows.{Row, free, row_at}
 use Rattle.shelf.specs.Contents.{Contents}
 
 -- When the numbers are used up, the next would be above those of a u32.
@@ -11,7 +11,7 @@ abbrev pub next_number : Option ℕ → ℕ
 next_number None = 4294967296
 next_number (Some n) = n
 
-abbrev pub contents_of : ℕ → ℕ → ℕ → List (Option Group) → List ℕ → Contents
+abbrev pub contents_of : ℕ → ℕ → ℕ → List Group → List ℕ → Contents
 contents_of strip strips next groups bytes =
     record { strip = strip; next = next; rows = map (row_at strip groups bytes) (range_with_len 0 strips); tail = drop (strips * strip) bytes }
 
@@ -23,7 +23,7 @@ pub record Sound (s : Inside) : Type 0 where
   pub places : length s.groups ≡ 64
   pub few : s.strips ≤ 64
   pub room : s.strips * s.strip ≤ vec_len s.bytes
-  pub fits : (j : ℕ) → FitsStrip s.strip (slice_index_or s.groups j None)
+  pub fits : (j : ℕ) → (slice_index_or s.groups j free).len ≤ s.strip
   pub next : 1 ≤ next_number s.next
 
 -- No byte is left out: the shelf's bytes are those of the strips, head and rest of each, and those behind the last.

@@ -4,14 +4,15 @@ ghost use Rattle.table.specs.Rows.{blanks};
 ghost use Rattle.facts.specs.Head.{outcome};
 ghost use Rattle.facts.specs.Laws.{Alike};
 ghost use Rattle.shelf.specs.Histories.{filing};
-ghost use Rattle.shelf.specs.Clients.{compared, if_filed};
+ghost use Rattle.shelf.specs.Clients.{compared};
 
 use crate::shelf::Shelf;
 use image::store::Store;
-use table::row::Row;
+use table::row::{Row, blank_all};
 use wire::refusal::Refusal;
 
 // Whether all fifteen questions answer alike over two stores, each with the rows handed in; by a shelf over the bytes.
+// Accepted or refused, all work bytes are 0 and all rows blank at the end.
 pub fn alike<'a, S: Store<'a>, T: Store<'a>>(
     strip: usize,
     bytes: Vec<u8>,
@@ -24,12 +25,16 @@ pub fn alike<'a, S: Store<'a>, T: Store<'a>>(
         compared strip bytes.items
         (filing (length rows.old) (length work.old) (S.Store.endian x.now) (S.Store.map x.now))
         (filing (length rows.old) (length work.old) (T.Store.endian y.now) (T.Store.map y.now)) }
-    ensures rows { rows.new ≡ if_filed strip bytes.items (blanks (length rows.old)) rows.old }
-    ensures work { work.new ≡ if_filed strip bytes.items (replicate (length work.old) 0) work.old }
+    ensures rows { rows.new ≡ blanks (length rows.old) }
+    ensures work { work.new ≡ replicate (length work.old) 0 }
     ensures law { IfOk result (λ b. Decides b (Alike (length rows.old) (S.Store.endian x.now) (S.Store.map x.now).at (length rows.old) (T.Store.endian y.now) (T.Store.map y.now).at)) }
 {
     let (mut shelf, opened) = Shelf::open(strip, 1, bytes);
-    opened?;
+    if let Err(refusal) = opened {
+        blank_all(rows);
+        work.fill(0);
+        return Err(refusal);
+    }
     let first = shelf.file(x, rows, work)?;
     let second = shelf.file(y, rows, work)?;
     Ok(first == second)

@@ -1,4 +1,7 @@
 // The shelf's data. It stands apart from the calls, since what they promise speaks of this struct.
+ghost use Rattle.std.specs.Prelude.{◌≡◌};
+ghost use Rattle.shelf.specs.Rows.{is_free};
+
 use std::marker::Model;
 
 mod calls;
@@ -9,15 +12,27 @@ mod places;
 mod sizes;
 
 // A group of recordings with the same head: its number; how many filings have not been released; and the length of the
-// head, which is at the front of the strip.
+// head, which is at the front of the strip. A row with the number 0 is no group, and its strip is free.
 #[derive(Clone, Copy, PartialEq, Eq, Debug)]
 pub struct Group {
     number: u32,
     count: u32,
-    // Kept: a length beside bytes that are elsewhere. A head has no memory of its own: it lies in a strip of fixed length, in the
-    // caller's bytes, which the shelf keeps.
     len: usize,
 }
+
+impl Group {
+    fn is_free(&self) -> bool
+        ensures { result ≡ is_free self.now }
+    {
+        self.number == 0
+    }
+}
+
+const FREE: Group = Group {
+    number: 0,
+    count: 0,
+    len: 0,
+};
 
 // A group that is held, and its place on the shelf.
 #[derive(Clone, Copy)]
@@ -26,24 +41,22 @@ pub(crate) struct Held {
     group: Group,
 }
 
+// The bytes are cut into no more strips than this, however many they are.
 pub const MOST_STRIPS: usize = 64;
 
+// The most bytes that a strip can have.
 pub const LONGEST_STRIP: usize = 65_536;
 
-// The bytes are cut into strips of one length, as many as they have room for, up to the most.
+// A shelf: its bytes are cut into strips of one length, as many as they have room for, up to the most.
 #[derive(Drop)]
 pub struct Shelf {
+    // 0 after a refused opening
     strip: usize,
-    // Kept: `(bytes.len() / strip).min(MOST_STRIPS)` is this number too, but with a case of its own for a refused shelf, whose strip
-    // is 0 (`checked_div`, and 0 for none).
     strips: usize,
     // the number that the next new group gets, until they are used up
     next: Option<u32>,
-    // The group of each strip that is not free.
-    // Kept: a `Vec` would need heap, which the library does not ask for; it keeps the caller's bytes and makes none. The kit's
-    // `ArrayVec` needs none and knows its length, but the length of this list never changes: what it has beside an array, calls
-    // that push and remove, would be one more crate for a field less.
-    groups: [Option<Group>; MOST_STRIPS],
+    // a row for each strip, and rows that are not used
+    groups: [Group; MOST_STRIPS],
     bytes: Vec<u8>,
 }
 

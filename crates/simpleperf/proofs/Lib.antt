@@ -3,3 +3,4 @@ pub mod Counted
 pub mod Runs
 pub mod Sized
 pub mod Views
+pub mod Consecutive

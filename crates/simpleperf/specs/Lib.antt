@@ -6,3 +6,4 @@ pub mod Reading
 pub mod Lists
 pub mod Answers
 pub mod Numbered
+pub mod Laws

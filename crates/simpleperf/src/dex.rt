@@ -6,9 +6,11 @@ use crate::list::{ItemList, Listed};
 use crate::reader::Reader;
 use wire::refusal::Refusal;
 
+// A list of dex offsets is a list of these.
 #[derive(Clone, Copy)]
 pub struct Offsets;
 
+// Dex offsets, one after another.
 pub type OffsetList<'a> = ItemList<'a, Offsets>;
 
 impl<'a> Listed<'a> for Offsets {

@@ -14,8 +14,6 @@ use crate::types::DsoType;
 use wire::refusal::Refusal;
 
 // A file that the recording saw, with its symbols. All of it lies in the section.
-// Kept: the type beside what is said by the type. A record has the type before its symbols and the rest behind them, and
-// three of the six types say nothing there. One enum of both would be made last, so the type would need its own until then.
 #[derive(Clone, Copy)]
 pub struct SimpleperfFileRecord<'a> {
     pub path: &'a str,

@@ -11,21 +11,25 @@ use crate::reader::Reader;
 use crate::types::DsoType;
 use wire::refusal::Refusal;
 
+// The offsets of the dex files that a file holds.
 #[derive(Clone, Copy)]
 pub struct SimpleperfDexFileInfo<'a> {
     pub dex_file_offset: OffsetList<'a>,
 }
 
+// Where in an elf file its lowest address lies; the largest u64 where the record leaves it out.
 #[derive(Clone, Copy)]
 pub struct SimpleperfElfFileInfo {
     pub file_offset_of_min_vaddr: u64,
 }
 
+// Where in memory a kernel module's lowest address lies; the largest u64 where the record leaves it out.
 #[derive(Clone, Copy)]
 pub struct SimpleperfKernelModuleInfo {
     pub memory_offset_of_min_vaddr: u64,
 }
 
+// What a record says of its file by the file's type.
 #[derive(Clone, Copy)]
 pub enum SimpleperfTypeSpecificInfo<'a> {
     // only with DsoType::DexFile
@@ -36,9 +40,7 @@ pub enum SimpleperfTypeSpecificInfo<'a> {
     KernelModule(SimpleperfKernelModuleInfo),
 }
 
-// A u64, or the largest where no byte is left.
-// Kept: the number stands for none. docs/FORMATS.md settles so, the two fields are numbers as in the format's other reader,
-// and a head's bytes have that number.
+// A u64, or the largest where no byte is left: that number stands for none, in a head too.
 fn read_u64_or_none(reader: &mut Reader<'_>) -> Result<u64, Refusal>
     ensures { number_got result reader.new.rest.now ≡ u64_or_none reader.old.order reader.old.size reader.old.rest.now }
 {

@@ -2,6 +2,7 @@
 ghost use Rattle.std.specs.Prelude.{◌≡◌};
 ghost use Rattle.perf_data.specs.Questions.{question, answered};
 ghost use Rattle.simpleperf.specs.Answers.{file_of, files_of, symbol_of};
+ghost use Rattle.simpleperf.specs.Laws.{RecordsFill};
 ghost use Rattle.simpleperf.specs.Numbered.{one_of, of_file, symbol_at, offset_at};
 ghost use Rattle.simpleperf.specs.Tables.{symbol_tables};
 
@@ -14,9 +15,11 @@ use image::store::Store;
 use perf_data::features::Feature;
 use wire::refusal::Refusal;
 
-// The files that the recording saw, with their symbols. A fault anywhere in the section is the answer.
+// The files that the recording saw, with their symbols. Each record lies behind the four bytes of its length and the next one
+// behind it, and they fill the section; the fault of the first that has one is the answer.
 pub fn symbol_tables<'a, S: Store<'a>>(store: &S) -> Result<Option<SymbolTables<'a>>, Refusal>
-    ensures { answered files_of result ≡ question symbol_tables (S.endian store.now) ((S.map store.now).at 128) }
+    ensures is { answered files_of result ≡ question symbol_tables (S.endian store.now) ((S.map store.now).at 128) }
+    ensures records { RecordsFill (S.endian store.now) ((S.map store.now).at 128) (answered files_of result) }
 {
     section_of(store, Feature::SIMPLEPERF_FILE.0)
         .map(read_tables)
@@ -24,8 +27,6 @@ pub fn symbol_tables<'a, S: Store<'a>>(store: &S) -> Result<Option<SymbolTables<
 }
 
 // One of these files, by its number from 0; none past the last.
-// Kept: a `let .. else` for each thing that may be absent, here and in the two functions below. `and_then` with a closure left
-// goals open, and of one `let .. else` with a nested pattern the proof had no equation for what stood inside.
 pub fn symbol_table<'a, S: Store<'a>>(
     store: &S,
     k: usize,

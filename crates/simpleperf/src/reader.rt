@@ -11,8 +11,6 @@ use wire::refusal::Refusal;
 
 // Reads from the front of the bytes that are left of a record or a section. What it read is left no more; where it refuses,
 // nothing is said of what is left.
-// Kept: that order and size stay as they were is a clause of each reading, `SameRecord`. The type cannot say it of what is lent to
-// be changed, and one relation of both clauses, as `Appends` of put, would take each reading's definition as a parameter.
 #[derive(Clone, Copy)]
 pub struct Reader<'a> {
     pub(crate) order: ByteOrder,
@@ -40,7 +38,6 @@ impl<'a> Reader<'a> {
         Ok(n)
     }
 
-    // Kept: a name for each width, as the definitions of the format have one: a record is read in their words.
     pub(crate) fn u32(&mut self) -> Result<u32, Refusal>
         ensures reads { number_got result self.new.rest.now ≡ u32_in self.old.order self.old.size self.old.rest.now }
         ensures record { SameRecord self.old self.new }

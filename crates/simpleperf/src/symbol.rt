@@ -13,9 +13,11 @@ pub struct SimpleperfSymbol<'a> {
     pub name: &'a str,
 }
 
+// A list of symbols is a list of these.
 #[derive(Clone, Copy)]
 pub struct Symbols;
 
+// Symbols, one after another.
 pub type SymbolList<'a> = ItemList<'a, Symbols>;
 
 impl<'a> Listed<'a> for Symbols {

@@ -14,9 +14,11 @@ use std::marker::PhantomData;
 use wire::order::tail;
 use wire::refusal::Refusal;
 
+// A list of files is a list of these.
 #[derive(Clone, Copy)]
 pub struct Files;
 
+// The files of a recording, one after another.
 pub type SymbolTables<'a> = ItemList<'a, Files>;
 
 // What follows a record starts where its length says.
@@ -52,8 +54,7 @@ impl<'a> Listed<'a> for Files {
 fn check_files(mut reader: Reader<'_>) -> Result<(), Refusal>
     ensures { fault_in result ≡ first_fault (run (sized_file reader.entry.order reader.entry.size) reader.entry.rest.now) }
 {
-    // Kept: how long a record is stands in the record, so neither a range nor chunks give its bytes. `SymbolTables` stops at
-    // a fault without telling it, and this walk is there to tell it.
+    // `SymbolTables` itself stops at a fault and does not tell which.
     while !reader.rest.is_empty() {
         Files::read(&mut reader)?;
     }

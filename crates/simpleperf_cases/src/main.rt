@@ -15,7 +15,7 @@ use std::io::{BufRead, BufReader};
 use wire::order::ByteOrder;
 
 // Whether two records say the same of a file, but for what its type says.
-// Kept: by hand, and no derive: a record's symbols are equal where the walks over them give the same, wherever they lie.
+// Symbols are equal where the walks over them give the same, wherever they lie.
 fn is_same(a: SimpleperfFileRecord<'_>, b: SimpleperfFileRecord<'_>) -> bool {
     a.path == b.path
         && a.file_type == b.file_type
@@ -43,14 +43,13 @@ fn check_records(section: &[u8], order: ByteOrder) -> anyhow::Result<()> {
 }
 
 fn print_line(rt: &HostRuntime, line: &str) -> anyhow::Result<()> {
-    // Kept: two calls for the hexadecimal at a line's end, for the reason that mappings_cases has at its own.
     let (name, text) = line
         .split_once(" x")
         .context("a line is a byte order, a space, x and hexadecimal")?;
     let section = decode(rt.alloc(), text.as_bytes())?.context("a line has no whole hexadecimal")?;
     let order = name.parse::<ByteOrder>()?;
     check_records(&section, order)?;
-    // Kept: the words of docs/ASK.md for an order, which answers reads and nothing else here writes.
+    // The words for a byte order in docs/ASK.md.
     let word = match order {
         ByteOrder::Little => "le",
         ByteOrder::Big => "be",

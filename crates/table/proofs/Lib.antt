@@ -5,3 +5,4 @@ pub mod Stand
 pub mod More
 pub mod Orders
 pub mod Carried
+pub mod Lasts

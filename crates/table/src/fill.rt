@@ -71,8 +71,7 @@ impl<'r, K: Kind> Fill<'r, K> {
     }
 
     // How many rows the table has, in the first of the rows; or none where they were too few, and all are blank.
-    // Kept: a count, and no slice of those rows, here and in the questions that answer it: a slice would keep the rows lent, and
-    // what all of them are after the call could be said only of when that ends.
+    // A slice of those rows in place of the count would keep all rows lent.
     pub fn finish(&self) -> Option<usize>
         ensures is { result ≡ self.now.used }
         ensures holds { (table : List Rows) → Holds table self.now.used self.now.rows.now → (result ≡ fits (length self.now.rows.now) table) × (self.now.rows.now ≡ laid (length self.now.rows.now) table) }

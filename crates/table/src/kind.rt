@@ -7,6 +7,7 @@ ghost use Rattle.table.specs.declared.row.Row.{Row as Rows};
 use crate::row::Row;
 use std::cmp::Ordering;
 
+// What rows go by.
 pub trait Kind {
     // The keys, and their total order.
     ghost Key: { Type 0 };

@@ -4,9 +4,7 @@ ghost use Rattle.table.specs.Rows.{part as part_of, key_part, value_part, blanks
 
 // A number, and two parts of a section by their place and length in it. What they are is for the kind of key to say. A
 // blank row is all 0.
-// Kept: the rows are lent, and lent again for the next recording, so a row holds places and lengths, and no slices, which
-// would bind the caller's memory to one section. And a part is two fields: rows are public, and with a struct for it each
-// definition that reads or makes a row would go by `row.key.at`, which is no plainer.
+// Slices in place of the numbers would bind the caller's memory to one section.
 #[derive(Clone, Copy, PartialEq, Eq, Debug)]
 pub struct Row {
     pub number: u32,
@@ -25,6 +23,7 @@ fn part(section: &[u8], at: u32, len: u32) -> &[u8]
 }
 
 impl Row {
+    // The row that stands for nothing.
     pub const BLANK: Row = Row {
         number: 0,
         key_at: 0,
@@ -33,13 +32,14 @@ impl Row {
         value_len: 0,
     };
 
-    // The part of the section that is the row's key, and the one that is its value.
+    // The part of the section that is the row's key.
     pub fn key<'a>(&self, section: &'a [u8]) -> &'a [u8]
         ensures { result.now ≡ key_part section.now self.now }
     {
         part(section, self.key_at, self.key_len)
     }
 
+    // The part of the section that is the row's value.
     pub fn value<'a>(&self, section: &'a [u8]) -> &'a [u8]
         ensures { result.now ≡ value_part section.now self.now }
     {

@@ -16,6 +16,7 @@ pub const DIRTY: Row = Row {
     value_len: 7,
 };
 
+// The table of some rows, in the first of those lent.
 pub fn tabulate<K: Kind>(kind: &K, rows: &mut [Row], given: &[Row]) -> Option<usize>
     ensures count { result ≡ fits (length rows.old) (tabled K.order (K.key kind.now) given.now) }
     ensures table { rows.new ≡ laid (length rows.old) (tabled K.order (K.key kind.now) given.now) }

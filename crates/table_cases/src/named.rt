@@ -5,6 +5,7 @@ use std::cmp::Ordering;
 use table::kind::{Kind, Texts};
 use table::row::Row;
 
+// The kind, over a section.
 #[derive(Clone, Copy)]
 pub struct Named<'a> {
     pub section: &'a [u8],
@@ -18,7 +19,7 @@ impl Kind for Named<'_> {
     ghost key = { λ kind row. name_of kind.section.now row };
 
     fn compare(&self, a: &Row, b: &Row) -> Ordering {
-        // Kept: by hand. Two keys as `Option`s have this order, but what is tested here is a kind that calls another's `compare`.
+        // By hand, since a kind that calls another's `compare` is what is tested here.
         match (a.number, b.number) {
             (0, 0) => Ordering::Equal,
             (0, _) => Ordering::Less,

@@ -7,6 +7,7 @@ use table::fill::Fill;
 use table::kind::Numbers;
 use table::row::{Row, blank_all};
 
+// Why a section has no table.
 #[derive(Clone, Copy, PartialEq, Eq, Debug)]
 pub enum Refused {
     Fault { at: usize },
@@ -22,6 +23,7 @@ fn item(b: u8) -> Row
     }
 }
 
+// The table of a section's numbers, in the first rows; all are blank where there is none.
 pub fn read(rows: &mut [Row], section: &[u8]) -> Result<usize, Refused>
     ensures is { result ≡ answer (length rows.old) section.now }
     ensures after { rows.new ≡ left (length rows.old) section.now }

@@ -3,4 +3,5 @@ pub mod Pieces
 pub mod States
 pub mod Showing
 pub mod Strings
+pub mod HeaderTexts
 pub mod Refusals

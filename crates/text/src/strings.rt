@@ -1,11 +1,15 @@
 // Header texts: a length of four bytes, and then that many bytes, of which the text is those before the first NUL.
-ghost use Rattle.std.specs.Prelude.{◌≡◌, true, false, MatchOption};
+ghost use Rattle.std.specs.Prelude.{◌≡◌, true, false, MatchOption, IfErr};
+ghost use Rattle.wire.specs.Faults.{fault_of};
+ghost use Rattle.text.specs.HeaderTexts.{ReadsHeaderText};
 ghost use Rattle.text.specs.Pieces.{well_formed};
-ghost use Rattle.text.specs.Refusals.{refusal_of};
+ghost use Rattle.text.specs.Refusals.{refusal_of, header_fault, IsRefused};
 ghost use Rattle.text.specs.Strings.{before_nul, header_text, read_of};
 
-use std::str::from_utf8;
-use wire::order::{ByteOrder, tail};
+use crate::pieces::well_formed;
+use memchr::memchr;
+use std::str::from_utf8_unchecked;
+use wire::order::ByteOrder;
 use wire::refusal::Refusal;
 
 // Why a text is refused.
@@ -22,7 +26,8 @@ pub enum TextFault {
 impl TextFault {
     // The refusal of a text whose length stands at an offset of the feature's section.
     pub fn refusal(self, feature: u32, at: u32) -> Refusal
-        ensures { result ≡ refusal_of self feature at }
+        ensures is { result ≡ refusal_of self feature at }
+        ensures fault { fault_of result ≡ header_fault self feature at }
     {
         let bytes_at = at.saturating_add(4);
         match self {
@@ -43,7 +48,7 @@ impl TextFault {
 pub fn before_nul(bytes: &[u8]) -> &[u8]
     ensures { result.now ≡ before_nul bytes.now }
 {
-    match bytes.iter().position(|b| *b == 0) {
+    match memchr(0, bytes) {
         Some(nul) => &bytes[..nul],
         None => bytes,
     }
@@ -53,7 +58,11 @@ pub fn before_nul(bytes: &[u8]) -> &[u8]
 pub fn as_text(bytes: &[u8]) -> Option<&str>
     ensures { MatchOption result (well_formed bytes.now ≡ false) (λ s. (s.now ≡ bytes.now) × (well_formed bytes.now ≡ true)) }
 {
-    from_utf8(bytes).ok()
+    if !well_formed(bytes) {
+        return None;
+    }
+    // Safety: the test says that the bytes are UTF-8 (clause `utf8` of `well_formed`).
+    Some(unsafe { from_utf8_unchecked(bytes) })
 }
 
 // Reads the text at the front of a section, and answers it with the bytes after the full length. The text is cut at its
@@ -62,10 +71,15 @@ pub fn read_string<'s>(
     order: ByteOrder,
     section: &'s [u8],
 ) -> Result<(&'s str, &'s [u8]), TextFault>
-    ensures { read_of result ≡ header_text order section.now }
+    ensures is { read_of result ≡ header_text order section.now }
+    ensures law { ReadsHeaderText order section.now (read_of result) }
+    ensures faults { IfErr result (IsRefused order section.now) }
 {
-    let len = order.u32(section).ok_or(TextFault::ShortLength)?;
-    let (field, after) = tail(section, 4)
+    let [a, b, c, d, rest @ ..] = section else {
+        return Err(TextFault::ShortLength);
+    };
+    let len = order.u32(&[*a, *b, *c, *d]).ok_or(TextFault::ShortLength)?;
+    let (field, after) = rest
         .split_at_checked(len as usize)
         .ok_or(TextFault::PastEnd)?;
     let text = as_text(before_nul(field)).ok_or(TextFault::IllFormed)?;

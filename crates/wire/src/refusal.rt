@@ -11,9 +11,6 @@ pub const NO_FEATURE: u32 = 256;
 
 // The features that a case is always of: the command line, the clock data, the symbol records and the symbol tables of
 // the second format.
-// Kept: `Feature` of perf_data has these numbers too, but perf_data lies above this crate, and `Feature` has its name and
-// its place from the Rust crate. Moved down here it would be no plainer: `fault_of` and the contracts of every layer go by
-// feature numbers, so each use of the type would say `.0`.
 const CMDLINE: u32 = 11;
 
 const CLOCK_DATA: u32 = 29;
@@ -35,16 +32,17 @@ pub enum Layer {
     State = 4,
 }
 
+// A refusal's number, and the place of what failed.
 #[derive(Clone, Copy, PartialEq, Eq, Debug)]
 pub struct Fault {
     pub number: u32,
     pub layer: Layer,
-    // Kept: the rules settle that a refusal's feature is 256 where none is meant (docs/REFUSALS.md), and `fault_of` has the
-    // number 256 there too, so it is a number.
+    // 256 where no feature is meant
     pub feature: u32,
     pub offset: u32,
 }
 
+// Why a call is turned down.
 #[derive(Clone, Copy, PartialEq, Eq, Debug)]
 pub enum Refusal {
     // 1: an image shorter than the fixed front of its kind
@@ -119,6 +117,7 @@ impl Fault {
 }
 
 impl Refusal {
+    // Its number and place.
     pub fn fault(self) -> Fault
         ensures { result ≡ fault_of self }
     {

@@ -15,7 +15,6 @@ use wire::refusal::Refusal;
 impl Shelf {
     // A shelf over the bytes, which it keeps, with strips of `strip` bytes and numbers from `first` on. All bytes are made 0.
     // Refused with 37 where a value is out of its bounds: then the shelf has no strip, and its bytes are as they were.
-    // Kept: a shelf beside a `Result`. By docs/SHELF.md a refused opening makes a shelf too, which holds the caller's bytes.
     pub fn open(strip: usize, first: u32, bytes: Vec<u8>) -> (Shelf, Result<(), Refusal>)
         ensures answer { outcome result.1 ≡ open_answer strip first bytes.items }
         ensures shelf { result.0 ≡ opening strip first bytes.items }
@@ -30,8 +29,6 @@ impl Shelf {
 
     // Files a store into the group that keeps its head, or into a new one, and answers the group's number. Accepted or
     // refused, all work bytes are 0 and all rows blank at the end; refused, the shelf is as it was.
-    // Kept: the store, the rows and the work bytes as parameters, as `write_head` takes its own: of a struct of the three each
-    // clause would have to say too that the store and the numbers of rows and of bytes are those of before.
     pub fn file<'a, S: Store<'a>>(
         &mut self,
         store: &S,

@@ -1,49 +1,40 @@
 // The changes at one place of a shelf.
-ghost use Rattle.std.specs.Prelude.{◌≡◌, ◌-◌, ◌<◌, ◌≤◌, ◌++◌, length, replicate};
-ghost use Rattle.shelf.specs.Contents.{row_in, put, blank, handed_out};
-ghost use Rattle.shelf.specs.Rows.{row_of, FitsStrip};
-ghost use Rattle.shelf.specs.Calls.{recount, fresh};
+ghost use Rattle.std.specs.Prelude.{◌≡◌, ◌<◌, length};
+ghost use Rattle.table.specs.Rows.{blanks};
+ghost use Rattle.facts.specs.Head.{head_of, fitted, length_of, outcome};
+ghost use Rattle.shelf.specs.Contents.{row_in, put, blank};
+ghost use Rattle.shelf.specs.Calls.{recount};
+ghost use Rattle.shelf.specs.Keeping.{with_zeros, kept_at, number_if};
 ghost use Rattle.shelf.specs.Stands.{StandsAt};
 
-use super::{Group, Held, Shelf};
+use super::{FREE, Group, Held, Shelf};
+use head::head::write_head;
+use image::store::Store;
+use table::row::Row;
+use wire::refusal::Refusal;
 
-// Writes bytes to the front of a strip, and 0 behind them.
-fn fill_strip(strip: &mut [u8], front: &[u8])
-    requires { length front.now ≤ length strip.old }
-    ensures { strip.new ≡ front.now ++ replicate (length strip.old - length front.now) 0 }
+// Makes the head of a store in a strip, with 0 behind it, and answers its length.
+fn fill_strip<'a, S: Store<'a>>(
+    store: &S,
+    rows: &mut [Row],
+    strip: &mut [u8],
+) -> Result<usize, Refusal>
+    ensures answer { outcome result ≡ length_of (fitted (length strip.old) (head_of (length rows.old) (S.endian store.now) (S.map store.now).at)) }
+    ensures after { strip.new ≡ with_zeros (fitted (length strip.old) (head_of (length rows.old) (S.endian store.now) (S.map store.now).at)) strip.old }
+    ensures rows { rows.new ≡ blanks (length rows.old) }
 {
-    let (head, rest) = strip.split_at_mut(front.len());
-    head.copy_from_slice(front);
-    rest.fill(0);
+    let len = write_head(store, rows, strip)?;
+    strip[len..].fill(0);
+    Ok(len)
 }
 
 impl Shelf {
-    // Kept: three facts of a shelf as it stands are clauses: a group stands at its place (`recount`, and `head_at` in
-    // places.rt); there is such a place (`put`, `clear`, `keep`); a head fits its strip (`put`, `keep`, and `settle` in
-    // filing.rt). `Held`, or a type for a place, could carry the first two only with a borrow of the shelf, and the shelf is
-    // changed at the place. How long a strip is, each shelf says for itself, so a type for heads cannot say that one fits.
-
     // A group that is held has this count.
     pub(crate) fn recount(&mut self, held: Held, count: u32)
         requires { StandsAt self.old held.place held.group }
         ensures { self.new ≡ put self.old held.place (recount (row_in self.old held.place) count) }
     {
-        self.groups[held.place] = Some(Group {
-            count,
-            ..held.group
-        });
-    }
-
-    // A place gets a group or none, with `head` at the front of its strip and 0 behind.
-    fn put(&mut self, i: usize, group: Option<Group>, head: &[u8])
-        requires place { i < length self.old.rows }
-        requires head { length head.now ≤ self.old.strip }
-        requires group { FitsStrip self.old.strip group }
-        ensures { self.new ≡ put self.old i (row_of group (head.now ++ replicate (self.old.strip - length head.now) 0)) }
-    {
-        let from = i * self.strip;
-        fill_strip(&mut self.bytes[from..from + self.strip], head);
-        self.groups[i] = group;
+        self.groups[held.place].count = count;
     }
 
     // Frees a place, and writes 0 into its strip.
@@ -51,22 +42,34 @@ impl Shelf {
         requires { i < length self.old.rows }
         ensures { self.new ≡ put self.old i (blank self.old.strip) }
     {
-        self.put(i, None, &[]);
+        let from = i * self.strip;
+        self.bytes[from..from + self.strip].fill(0);
+        self.groups[i] = FREE;
     }
 
-    // Keeps a head at a place, for a new group with the next number.
-    pub(crate) fn keep(&mut self, i: usize, number: u32, head: &[u8])
+    // Makes the head of a store in the strip at a place, for a new group with the next number. Where there is no head that
+    // fits, nothing is changed.
+    pub(crate) fn keep<'a, S: Store<'a>>(
+        &mut self,
+        store: &S,
+        rows: &mut [Row],
+        i: usize,
+        number: u32,
+    ) -> Result<u32, Refusal>
         requires place { i < length self.old.rows }
-        requires head { length head.now ≤ self.old.strip }
         requires number { number ≡ self.old.next }
-        ensures { self.new ≡ handed_out (put self.old i (fresh self.old.strip number head.now)) }
+        ensures answer { outcome result ≡ number_if number (fitted self.old.strip (head_of (length rows.old) (S.endian store.now) (S.map store.now).at)) }
+        ensures after { self.new ≡ kept_at self.old i (fitted self.old.strip (head_of (length rows.old) (S.endian store.now) (S.map store.now).at)) }
+        ensures rows { rows.new ≡ blanks (length rows.old) }
     {
-        let group = Group {
+        let from = i * self.strip;
+        let len = fill_strip(store, rows, &mut self.bytes[from..from + self.strip])?;
+        self.groups[i] = Group {
             number,
             count: 1,
-            len: head.len(),
+            len,
         };
         self.next = number.checked_add(1);
-        self.put(i, Some(group), head);
+        Ok(number)
     }
 }

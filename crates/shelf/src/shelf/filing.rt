@@ -1,7 +1,7 @@
 // What a filing does: the head is made, gets a place, and is counted or kept there.
-ghost use Rattle.std.specs.Prelude.{◌≡◌, ℕ, ◌<◌, ◌≤◌, List, length, take, Ok};
+ghost use Rattle.std.specs.Prelude.{◌≡◌, ℕ, List, length, take, Ok};
 ghost use Rattle.table.specs.Rows.{blanks};
-ghost use Rattle.facts.specs.Head.{head_of, length_of, outcome};
+ghost use Rattle.facts.specs.Head.{head_of, fitted, length_of, outcome};
 ghost use Rattle.shelf.specs.Calls.{head_for, file_answer, file_after};
 
 use super::Shelf;
@@ -12,7 +12,6 @@ use wire::refusal::Refusal;
 
 impl Shelf {
     // Makes the head of a store at the front of the work bytes, and answers its length.
-    // Kept: the store, the rows and the work bytes as parameters, for the reason at `file`.
     fn make_head<'a, S: Store<'a>>(
         &self,
         store: &S,
@@ -32,11 +31,19 @@ impl Shelf {
         Ok(len)
     }
 
-    // Counts one more filing of the group that keeps the head, or keeps the head for a new group; answers the group's number.
-    fn settle(&mut self, head: &[u8]) -> Result<u32, Refusal>
-        requires { length head.now ≤ self.old.strip }
+    // Counts one more filing of the group that keeps the store's head, or makes the head once more in a free strip, for a new
+    // group; answers the group's number.
+    fn settle<'a, S: Store<'a>>(
+        &mut self,
+        store: &S,
+        rows: &mut [Row],
+        head: &[u8],
+    ) -> Result<u32, Refusal>
+        requires made { fitted self.old.strip (head_of (length rows.old) (S.endian store.now) (S.map store.now).at) ≡ Ok head.now }
+        requires rows { rows.old ≡ blanks (length rows.old) }
         ensures answer { outcome result ≡ file_answer self.old (Ok head.now) }
         ensures after { self.new ≡ file_after self.old (Ok head.now) }
+        ensures rows { rows.new ≡ blanks (length rows.old) }
     {
         if let Some(held) = self.keeping(head) {
             let count = held.group.count.checked_add(1).ok_or(Refusal::CountFull)?;
@@ -45,12 +52,10 @@ impl Shelf {
         }
         let i = self.free_place().ok_or(Refusal::NoFreeStrip)?;
         let number = self.next.ok_or(Refusal::NumbersUsedUp)?;
-        self.keep(i, number, head);
-        Ok(number)
+        self.keep(store, rows, i, number)
     }
 
     // What `file` does, but for the work bytes.
-    // Kept: the three as parameters, for the reason at `file`.
     pub(crate) fn take_in<'a, S: Store<'a>>(
         &mut self,
         store: &S,
@@ -62,6 +67,6 @@ impl Shelf {
         ensures rows { rows.new ≡ blanks (length rows.old) }
     {
         let len = self.make_head(store, rows, work)?;
-        self.settle(&work[..len])
+        self.settle(store, rows, &work[..len])
     }
 }

@@ -2,7 +2,7 @@
 ghost use Rattle.std.specs.Prelude.{◌≡◌, true, vec_len};
 ghost use Rattle.shelf.specs.Calls.{in_bounds, empty as empty_of, without as without_strips};
 
-use super::{LONGEST_STRIP, MOST_STRIPS, Shelf};
+use super::{FREE, LONGEST_STRIP, MOST_STRIPS, Shelf};
 
 const SHORTEST_STRIP: usize = 5;
 
@@ -25,7 +25,7 @@ impl Shelf {
             strip,
             strips,
             next: Some(first),
-            groups: [None; MOST_STRIPS],
+            groups: [FREE; MOST_STRIPS],
             bytes,
         }
     }
@@ -38,7 +38,7 @@ impl Shelf {
             strip: 0,
             strips: 0,
             next: Some(1),
-            groups: [None; MOST_STRIPS],
+            groups: [FREE; MOST_STRIPS],
             bytes,
         }
     }

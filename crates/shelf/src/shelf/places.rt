@@ -1,6 +1,6 @@
 // Where groups stand on a shelf.
 ghost use Rattle.std.specs.Prelude.{◌≡◌};
-ghost use Rattle.std.specs.Option.{is_none};
+ghost use Rattle.shelf.specs.Rows.{is_free};
 ghost use Rattle.shelf.specs.Contents.{row_in};
 ghost use Rattle.shelf.specs.Calls.{first_with, has_head, place_of, free_place};
 ghost use Rattle.shelf.specs.Stands.{StandsAt, HeldAt, PassesAt, has_number, FindsGroup};
@@ -8,10 +8,10 @@ ghost use Rattle.shelf.specs.Stands.{StandsAt, HeldAt, PassesAt, has_number, Fin
 use super::{Group, Held, Shelf};
 
 // The first strip that is free.
-fn first_free(groups: &[Option<Group>]) -> Option<usize>
-    ensures { result ≡ first_with is_none groups.now }
+fn first_free(groups: &[Group]) -> Option<usize>
+    ensures { result ≡ first_with is_free groups.now }
 {
-    groups.iter().position(Option::is_none)
+    groups.iter().position(|group| group.is_free())
 }
 
 impl Shelf {
@@ -26,13 +26,14 @@ impl Shelf {
     fn held_at(&self, i: usize) -> Option<Held>
         ensures { HeldAt self.now i result }
     {
-        let group = (*self.groups[..self.strips].get(i)?)?;
+        let group = *self.groups[..self.strips].get(i)?;
+        if group.is_free() {
+            return None;
+        }
         Some(Held { place: i, group })
     }
 
     // The group at a place, if it has this number.
-    // Kept: this and `place_of` once more below, for a head. One walk over any test would have what its closure answers as a premise
-    // of the walk and as a proof at both calls; what the two walks share is proved once, for any test, as it is (`finds`).
     fn numbered_at(&self, i: usize, number: u32) -> Option<Held>
         ensures { PassesAt self.now (has_number number) i result }
     {

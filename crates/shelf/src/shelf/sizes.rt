@@ -1,15 +1,15 @@
 // How much there is on a shelf.
 ghost use Rattle.std.specs.Prelude.{◌≡◌, ◌≤◌, length, count_by};
-ghost use Rattle.std.specs.Option.{is_some};
+ghost use Rattle.shelf.specs.Rows.{is_held};
 ghost use Rattle.shelf.specs.Sizes.{held as held_of};
 
 use super::{Group, Shelf};
 
 // How many strips are held for groups.
-fn held(groups: &[Option<Group>]) -> usize
-    ensures { result ≡ count_by is_some groups.now }
+fn held(groups: &[Group]) -> usize
+    ensures { result ≡ count_by is_held groups.now }
 {
-    groups.iter().filter(|slot| slot.is_some()).count()
+    groups.iter().filter(|group| !group.is_free()).count()
 }
 
 impl Shelf {

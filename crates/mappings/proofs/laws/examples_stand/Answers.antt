@@ -1,9 +1,8 @@
-use Rattle.mappings.proofs.Examples.{later_value, empty_section, lone_nul, lone_piece, key_first, skipped_name, cut-length}
+use Rattle.mappings.proofs.Examples.{empty_section, lone_nul, lone_piece, key_first, skipped_name, cut-length}
 use Rattle.mappings.proofs.laws.examples_stand.Goals as goal
 
 pub returns : goal.returns
 returns c = record {
-  later = later_value;
   empty = empty_section;
   nul = lone_nul;
   lone = lone_piece;

@@ -8,7 +8,7 @@ use Rattle.perf_data.proofs.string_list.check_texts.Goals as goal
 pub returns-in_err-after : goal.returns-in_err-after
 returns-in_err-after c =
     let fault = matched_fault c.read_string.result _ _ c.in_err-after.ensures.cases (λ _ h. cc) in
-    let e = sym c.read_string.ensures ∙ fault.1 in
+    let e = sym c.read_string.ensures.is ∙ fault.1 in
     let at : ℕ = length c.args.section.bytes.now - length c.loop.rest.now in
     let told : c.in_err-after.field-0.0 ≡ refusal_of fault.0 11 at = search (rules, fault.2) in
     handed_on _ _ c.from_residual.ensures.1
@@ -18,7 +18,7 @@ returns-in_err-after c =
 pub loop-preserved : goal.loop-preserved
 loop-preserved c =
     let total : ℕ = length c.args.section.bytes.now in
-    let e = sym c.read_string.ensures ∙ matched_ok c.read_string.result _ _ c.in_ok-after.ensures.cases (λ _ h. h) (c.in_ok-after.field-0-0, c.in_ok-after.after) (λ _ h. cc) in
+    let e = sym c.read_string.ensures.is ∙ matched_ok c.read_string.result _ _ c.in_ok-after.ensures.cases (λ _ h. h) (c.in_ok-after.field-0-0, c.in_ok-after.after) (λ _ h. cc) in
     let less : c.args.count - c.loop.counter - 1 ≡ c.args.count - (c.loop.counter + 1) = omega arith in
     let short = rest_shorter c.args.section.order c.loop.rest.now _ e in (
       c.loop.invariant.0

@@ -9,4 +9,4 @@ use Rattle.simpleperf.proofs.questions.symbol_table.Goals as goal
 pub returns : goal.returns
 returns g c =
     ap Ok (nth-is file_of sized_file c.in-Some.tables c.nth.result c.nth.new.self c.args.k c.nth.ensures.ran)
-    ∙ ap (one_of c.args.k) (ap (λ x. Ok (mapped files_of x)) (sym c.in-Some.is) ∙ c.in_ok-tables.ensures)
+    ∙ ap (one_of c.args.k) (ap (λ x. Ok (mapped files_of x)) (sym c.in-Some.is) ∙ c.in_ok-tables.ensures.is)

@@ -1,0 +1,4 @@
+pub mod Appended
+pub mod Drained
+pub mod Loops
+pub mod Tables
