@@ -1,5 +1,5 @@
 -- How a line is read, and what is answered to it.
-use Rattle.std.specs.Prelude.{◌≡◌, ℕ, ◌≤◌, ◌⊎◌, ⊤, min, List, ◌∷◌, Some, None, Option, codes, ◌==◌}
+use Rattle.std.specs.Prelude.{◌≡◌, ℕ, ◌≤◌, ◌⊎◌, ⊤, min, List, ◌∷◌, Result, MatchResult, Some, None, Option, codes, ◌==◌}
 use Rattle.std.specs.List.{before_first, after_first}
 use Rattle.std.specs.Str.Parse.{IsNumeral, digits_value, without_leading_plus}
 use Rattle.hexadecimal.specs.Hex.{bytes_of, items}
@@ -45,6 +45,10 @@ IsLine text line =
 abbrev pub IsBad : LineError → Type 0
 IsBad Bad = ⊤
 IsBad (Memory e) = ⊥
+
+-- What is read of a text: the line that it is, or, but for want of memory, that it is none.
+abbrev pub IsReading : List ℕ → Result Line LineError → Type 0
+IsReading text read = MatchResult read (IsLine text) (λ e. IsBad e → (line : Line) → ¬ (IsLine text line))
 
 -- A text is answered as the line that it is, with as many of the rows as it asks for, and called a bad line where it is none.
 abbrev pub IsAnswer : List ℕ → ℕ → List ℕ → Type 0

@@ -1,11 +1,11 @@
 // Answers one question about a feature section, in text. A question is QUESTION ORDER ROWS SECTION, as docs/ASK.md has it.
 #![tactic(auto)]
 
-ghost use Rattle.std.specs.Prelude.{◌≡◌, ◌++◌, IfOk, OnOk, length, vec_len};
+ghost use Rattle.std.specs.Prelude.{◌≡◌, ◌++◌, ℕ, List, IfOk, OnOk, length, vec_len};
 ghost use Rattle.std.specs.String.{string_bytes};
 ghost use Rattle.hexadecimal.specs.Hex.{items};
 ghost use Rattle.answers.specs.Lines.{line_text};
-ghost use Rattle.answers.specs.Read.{IsAnswer};
+ghost use Rattle.answers.specs.Read.{IsAnswer, IsReading};
 
 mod facts;
 mod line;
@@ -101,12 +101,16 @@ fn write_line(out: &mut String, line: &Line, rows: &mut [Row]) -> Result<(), All
     }
 }
 
-// The answer to a question; the rows are for its table, as many of them as it asks for.
-pub fn answer(heap: Global, question: &str, rows: &mut [Row]) -> Result<String, AllocError>
-    ensures { IfOk result (λ text. IsAnswer question.now (length rows.old) (string_bytes text)) }
+// The answer to a line that was read, or to one that is none.
+fn answer_read(
+    heap: Global,
+    read: Result<Line, LineError>,
+    rows: &mut [Row],
+) -> Result<String, AllocError>
+    ensures { (question : List ℕ) → IsReading question read → IfOk result (λ text. IsAnswer question (length rows.old) (string_bytes text)) }
 {
     let mut out = String::new(heap);
-    match Line::read(heap, question) {
+    match read {
         Ok(line) => {
             let lent = line.rows().min(rows.len());
             write_line(&mut out, &line, &mut rows[..lent])?;
@@ -115,4 +119,21 @@ pub fn answer(heap: Global, question: &str, rows: &mut [Row]) -> Result<String, 
         Err(LineError::Memory(error)) => return Err(error),
     }
     Ok(out)
+}
+
+// The answer to a question; the rows are for its table, as many of them as it asks for.
+pub fn answer(heap: Global, question: &str, rows: &mut [Row]) -> Result<String, AllocError>
+    ensures { IfOk result (λ text. IsAnswer question.now (length rows.old) (string_bytes text)) }
+{
+    let read = Line::read(heap, question);
+    answer_read(heap, read, rows)
+}
+
+// The same of a question that is handed over. Its text is dropped before the answer is made, since both may be long.
+pub fn answer_owned(heap: Global, question: String, rows: &mut [Row]) -> Result<String, AllocError>
+    ensures { IfOk result (λ text. IsAnswer (string_bytes question) (length rows.old) (string_bytes text)) }
+{
+    let read = Line::read(heap, question.as_str());
+    drop(question);
+    answer_read(heap, read, rows)
 }

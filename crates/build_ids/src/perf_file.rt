@@ -18,7 +18,7 @@ use image::ask::section_of;
 use image::section::Section;
 use image::store::Store;
 use perf_data::features::Feature;
-use table::fill::Fill;
+use table::builder::TableBuilder;
 use table::row::{Row, blank_all};
 use wire::refusal::Refusal;
 
@@ -48,13 +48,13 @@ fn tabulate(section: Section<'_>, rows: &mut [Row]) -> Option<usize>
     let builds = Builds {
         section: section.bytes,
     };
-    let mut fill = Fill::start(builds, rows);
+    let mut builder = TableBuilder::start(builds, rows);
     for (at, event) in BuildIdEvents::new(section) {
         if let Some(row) = row_of(at, event) {
-            fill.add(row);
+            builder.add(row);
         }
     }
-    fill.finish()
+    builder.finish()
 }
 
 // The table of a store's section by its rows.

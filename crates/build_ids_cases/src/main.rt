@@ -22,18 +22,24 @@ use table_cases::caller::DIRTY;
 use wire::order::ByteOrder;
 use wire::refusal::Refusal;
 
+// How long the name of a key may be, for a line to be answered.
+const MOST_NAME: usize = 512;
+
 fn print_key(rt: &HostRuntime, misc: u16, path: &[u8]) -> anyhow::Result<()> {
     let mode = CpuMode::of_misc(misc);
     let (Some(key), Some(least)) = (DsoKey::detect(path, mode), least_mode(path, mode)) else {
         rt.println("none")?;
         return Ok(());
     };
-    let name: Vec<u8> = key.name().collect(rt.alloc())?;
+    let mut room = [0u8; MOST_NAME];
+    let Ok(Some(len)) = name(path, misc, &mut room) else {
+        return Err(anyhow!("a name has {MOST_NAME} bytes at most"));
+    };
     println!(rt;
         "{} least {} name x{}",
         key.kind(),
         u32::from(least),
-        Hex(&name)
+        Hex(&room[..len])
     )?;
     Ok(())
 }

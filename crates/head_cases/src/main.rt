@@ -9,8 +9,6 @@ use head::from_image::write_image_head;
 use hexadecimal::{Hex, decode};
 use image::section::LONGEST;
 use std::io::{BufRead, BufReader};
-use std::iter::Cycle;
-use std::ops::RangeInclusive;
 use table::row::Row;
 use table_cases::caller::DIRTY;
 
@@ -20,9 +18,9 @@ const MOST_ROWS: usize = 65_536;
 
 const MOST_ROOM: usize = 70_000;
 
-// What the bytes of the room are before a call, over and over: never 0, and none the same as its neighbours.
-fn filling() -> Cycle<RangeInclusive<u8>> {
-    (1..=251).cycle()
+// What a byte of the room is before a call: never 0, and not the same as its neighbours.
+fn filling(at: usize) -> u8 {
+    (at % 251 + 1) as u8
 }
 
 // The memory that a call is lent.
@@ -35,8 +33,8 @@ struct Lent<'a> {
 impl Lent<'_> {
     fn fill(&mut self) {
         self.rows.fill(DIRTY);
-        for (byte, filled) in self.room.iter_mut().zip(filling()) {
-            *byte = filled;
+        for (at, byte) in self.room.iter_mut().enumerate() {
+            *byte = filling(at);
         }
     }
 
@@ -46,9 +44,9 @@ impl Lent<'_> {
             || self
                 .room
                 .iter()
-                .zip(filling())
+                .enumerate()
                 .skip(from)
-                .any(|(byte, filled)| *byte != filled)
+                .any(|(at, byte)| *byte != filling(at))
     }
 
     fn print_head(&mut self, rt: &HostRuntime, image: &[u8]) -> anyhow::Result<()> {
@@ -84,8 +82,8 @@ fn print_line(
     let (lent, given) = front
         .split_once(' ')
         .context("a line has no bytes of room")?;
-    let lent = lent.parse::<usize>()?;
-    let given = given.parse::<usize>()?;
+    let lent = lent.parse::<u32>()? as usize;
+    let given = given.parse::<u32>()? as usize;
     let (Some(rows), Some(room)) = (rows.get_mut(..lent), room.get_mut(..given)) else {
         return Err(anyhow!("a line has more rows or room than there are"));
     };

@@ -28,7 +28,10 @@ pub fn decode(heap: Global, text: &[u8]) -> Result<Option<Vec<u8>>, AllocError>
     }
     let mut bytes = Vec::new(heap);
     for [high, low] in pairs {
-        let (Some(high), Some(low)) = (digit(*high), digit(*low)) else {
+        let Some(high) = digit(*high) else {
+            return Ok(None);
+        };
+        let Some(low) = digit(*low) else {
             return Ok(None);
         };
         bytes.push(16 * high + low)?;

@@ -12,7 +12,7 @@ use crate::mapping::{Mapping, table_of};
 use image::section::Section;
 use image::store::Store;
 use perf_data::features::Feature;
-use table::fill::Fill;
+use table::builder::TableBuilder;
 use table::kind::Texts;
 use table::row::Row;
 use text::pieces::well_formed;
@@ -85,13 +85,13 @@ impl Mapping for MetaInfo {
         let texts = Texts {
             section: section.bytes,
         };
-        let mut fill = Fill::start(texts, rows);
+        let mut builder = TableBuilder::start(texts, rows);
         let mut at = 0;
         while let Some(row) = read_pair(section, at)? {
-            fill.add(row);
+            builder.add(row);
             at = row.value_at as usize + row.value_len as usize + 1;
         }
-        Ok(fill.finish())
+        Ok(builder.finish())
     }
 }
 

@@ -12,7 +12,7 @@ use crate::mapping::{Mapping, table_of};
 use image::section::Section;
 use image::store::Store;
 use perf_data::features::Feature;
-use table::fill::Fill;
+use table::builder::TableBuilder;
 use table::kind::Numbers;
 use table::row::Row;
 use text::strings::{TextFault, read_string};
@@ -104,16 +104,16 @@ impl Mapping for PmuMappings {
         let Some(count) = section.order.u32(section.bytes) else {
             return Err(cut_short(0));
         };
-        let mut fill = Fill::start(Numbers, rows);
+        let mut builder = TableBuilder::start(Numbers, rows);
         let mut rest = tail(section.bytes, 4);
         for _ in 0..count {
             let item = read_item(section, rest)?;
             if let Some(row) = item.row {
-                fill.add(row);
+                builder.add(row);
             }
             rest = item.rest;
         }
-        Ok(fill.finish())
+        Ok(builder.finish())
     }
 }
 

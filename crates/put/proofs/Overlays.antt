@@ -36,6 +36,11 @@ overlay-before (b ∷ o) zero [] y = overlay-none (overlay (b ∷ o) zero y) zer
 overlay-before (b ∷ o) zero (c ∷ x) y =
     ap (λ (z : List ℕ). overlay z zero (c ∷ x)) (overlay_suc b o (zero + length x) (zero + length (c ∷ x)) y (omega arith)) ∙ ap (λ (z : List ℕ). c ∷ z) (overlay-before o zero x y)
 
+-- nothing to write into: only the places count
+pub overlay-empty : (a : ℕ) (x : List ℕ) → overlay [] a x ≡ []
+unfolding overlay
+overlay-empty a x = refl
+
 -- past the end
 pub overlay_past : (o : List ℕ) (a : ℕ) (x : List ℕ) → length o ≤ a → overlay o a x ≡ o
 unfolding overlay

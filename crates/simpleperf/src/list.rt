@@ -1,5 +1,5 @@
 // Lists of items, of whatever kind: symbols, dex offsets, files.
-ghost use Rattle.std.specs.Prelude.{◌≡◌, ℕ, List, Result};
+ghost use Rattle.std.specs.Prelude.{◌≡◌, ℕ, ◌<◌, min, List, length, IfOk, Result};
 ghost use Rattle.std.specs.Iterator.{YieldsFirstBy, at_most};
 ghost use Rattle.simpleperf.specs.Got.{got_of, left_of};
 ghost use Rattle.simpleperf.specs.Lists.{to_come};
@@ -25,9 +25,11 @@ pub trait Listed<'a>: Copy {
     // How one is read, where so many bytes are the whole.
     ghost reading: { Order → ℕ → List ℕ → Result (Got Value) Fault };
 
+    // An item takes a byte at least.
     fn read(reader: &mut Reader<'a>) -> Result<Self::Item, Refusal>
         ensures reads { got_of value result reader.new.rest.now ≡ reading reader.old.order reader.old.size reader.old.rest.now }
-        ensures record { SameRecord reader.old reader.new };
+        ensures record { SameRecord reader.old reader.new }
+        ensures takes { IfOk result (λ _. length reader.new.rest.now < length reader.old.rest.now) };
 }
 
 // Items that have all been looked at, given one after the other. They lie in the section.
@@ -44,7 +46,7 @@ impl<'a, K: Listed<'a>> Iterator for ItemList<'a, K> {
 
     ghost next_gives = { YieldsFirstBy K.value (to_come K.reading) };
 
-    ghost remaining = { λ s. at_most s.left };
+    ghost remaining = { λ s. at_most (min s.left (length s.reader.rest.now)) };
 
     fn next(&mut self) -> Option<K::Item> {
         if self.left == 0 {

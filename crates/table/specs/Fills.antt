@@ -4,7 +4,9 @@ use Rattle.table.specs.Order.{Order}
 use Rattle.table.specs.Rows.{blanks}
 use Rattle.table.specs.Table.{tabled}
 use Rattle.table.specs.declared.row.Row.{Row}
+use Rattle.table.specs.declared.builder.TableBuilder.{TableBuilder}
 use Rattle.table.specs.declared.fill.Fill.{Fill}
+use Rattle.table.specs.declared.fill.Fill.TheVariants.{Used, Over}
 
 -- The number of rows that a table uses, of n in all: none where they are too few.
 abbrev pub fits : ℕ → List Row → Option ℕ
@@ -19,11 +21,16 @@ abbrev pub Holds : List Row → Option ℕ → List Row → Type 0
 Holds table (Some n) rows = (n ≡ length table) × (n ≤ length rows) × (rows ≡ table ++ blanks (length rows - n))
 Holds table None rows = (length rows < length table) × (rows ≡ blanks (length rows))
 
--- A fill is what comes of inserting the rows `given`, one after another, into as many blank rows: `key` gives a row's key by
--- the fill's kind, and `o` is the order of the keys.
-abbrev pub Filled : {K X : Type 0} → Order X → (K → Row → X) → List Row → Fill K → Type 0
-Filled o key given fill = Holds (tabled o (key fill.kind) given) fill.used fill.rows.now
+-- How many rows a state of a table says are used.
+abbrev pub used_of : Fill → Option ℕ
+used_of (Used n) = Some n
+used_of Over = None
 
--- Two states of one fill: the kind is the same, and so are the rows that it stands in.
-abbrev pub IsSameFill : {K : Type 0} → Fill K → Fill K → Type 0
+-- A builder has what comes of inserting the rows `given`, one after another, into as many blank rows: `key` gives a row's key
+-- by the builder's kind, and `o` is the order of the keys.
+abbrev pub Filled : {K X : Type 0} → Order X → (K → Row → X) → List Row → TableBuilder K → Type 0
+Filled o key given builder = Holds (tabled o (key builder.kind) given) builder.used builder.rows.now
+
+-- Two states of one builder: the kind is the same, and so are the rows that it stands in.
+abbrev pub IsSameFill : {K : Type 0} → TableBuilder K → TableBuilder K → Type 0
 IsSameFill a b = (a.kind ≡ b.kind) × (a.rows.ghost_name ≡ b.rows.ghost_name) × (length a.rows.now ≡ length b.rows.now)

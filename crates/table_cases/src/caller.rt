@@ -3,7 +3,7 @@ ghost use Rattle.std.specs.Prelude.{◌≡◌, length};
 ghost use Rattle.table.specs.Table.{tabled};
 ghost use Rattle.table.specs.Fills.{fits, laid};
 
-use table::fill::Fill;
+use table::builder::TableBuilder;
 use table::kind::Kind;
 use table::row::Row;
 
@@ -21,9 +21,9 @@ pub fn tabulate<K: Kind>(kind: &K, rows: &mut [Row], given: &[Row]) -> Option<us
     ensures count { result ≡ fits (length rows.old) (tabled K.order (K.key kind.now) given.now) }
     ensures table { rows.new ≡ laid (length rows.old) (tabled K.order (K.key kind.now) given.now) }
 {
-    let mut fill = Fill::start(kind, rows);
+    let mut builder = TableBuilder::start(kind, rows);
     for row in given {
-        fill.add(*row);
+        builder.add(*row);
     }
-    fill.finish()
+    builder.finish()
 }

@@ -2,6 +2,7 @@
 use crate::caller::{DIRTY, tabulate};
 use crate::named::Named;
 use crate::reader::{Refused, read};
+use table::fill::Fill;
 use table::kind::{Numbers, Texts};
 use table::row::Row;
 
@@ -125,4 +126,18 @@ fn fault_comes_before_too_few_rows(rt: HostRuntime) {
         Err(Refused::Fault { at: 3 })
     );
     assert_eq!(rt; rows[0], Row::BLANK);
+}
+
+#[test]
+fn goes_on_with_rows_that_are_kept(rt: HostRuntime) {
+    let mut rows = [DIRTY; 2];
+    let one = Fill::start(&mut rows).add(&Numbers, &mut rows, number(5, 0));
+    assert_eq!(rt; one, Fill::Used(1));
+    let two = one.add(&Numbers, &mut rows, number(2, 1));
+    assert_eq!(rt; two.finish(), Some(2));
+    assert_eq!(rt; rows, [number(2, 1), number(5, 0)]);
+    let over = two.add(&Numbers, &mut rows, number(3, 2));
+    assert_eq!(rt; over.add(&Numbers, &mut rows, number(3, 3)), Fill::Over);
+    assert_eq!(rt; over.finish(), None);
+    assert_eq!(rt; rows, [Row::BLANK; 2]);
 }

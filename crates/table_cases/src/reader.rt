@@ -3,7 +3,7 @@
 ghost use Rattle.std.specs.Prelude.{◌≡◌, length};
 ghost use Rattle.table_cases.specs.Reads.{item as item_of, answer, left};
 
-use table::fill::Fill;
+use table::builder::TableBuilder;
 use table::kind::Numbers;
 use table::row::{Row, blank_all};
 
@@ -28,13 +28,13 @@ pub fn read(rows: &mut [Row], section: &[u8]) -> Result<usize, Refused>
     ensures is { result ≡ answer (length rows.old) section.now }
     ensures after { rows.new ≡ left (length rows.old) section.now }
 {
-    let mut fill = Fill::start(Numbers, rows);
+    let mut builder = TableBuilder::start(Numbers, rows);
     for (at, b) in section.iter().enumerate() {
         if *b == 255 {
             blank_all(rows);
             return Err(Refused::Fault { at });
         }
-        fill.add(item(*b));
+        builder.add(item(*b));
     }
-    fill.finish().ok_or(Refused::TooFewRows)
+    builder.finish().ok_or(Refused::TooFewRows)
 }

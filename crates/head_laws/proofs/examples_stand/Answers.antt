@@ -23,6 +23,7 @@ returns c =
       text_to_nul = refl;
       text_ill_formed = refl;
       shown_cut = refl;
+      shown_truncated = refl;
       later_value = refl;
       empty_head = refl;
       stat_head = refl;

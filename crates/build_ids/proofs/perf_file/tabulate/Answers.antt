@@ -74,13 +74,13 @@ returns c =
     let o = c.args.section.order in
     let inv = c.loop-at.invariant in
     let so_far = inv.0 in
-    let fill = c.loop-at.fill in
+    let builder = c.loop-at.builder in
     let at = c.loop-at.at-iterator.at in
     let h : event o (drop at s) ≡ None = here None inv.3 refl c.in-None.ensures.steps in
     let all = ap (tabled keys (row_key s)) (rows_end o s so_far at inv.2 h) in
-    let kind : row_key fill.kind.section.now ≡ row_key s = ap (λ kind. row_key kind.section.now) (inv.4.0 ∙ c.start-fill.ensures.same_kind) in
-    let n : length fill.rows.now ≡ length c.args.rows.now = search rules in
-    let done = c.finish.ensures.holds (tabled keys (row_key s) so_far) (subst (λ key. Holds (tabled keys key so_far) fill.used fill.rows.now) kind inv.1) in
+    let kind : row_key builder.kind.section.now ≡ row_key s = ap (λ kind. row_key kind.section.now) (inv.4.0 ∙ c.start-builder.ensures.same_kind) in
+    let n : length builder.rows.now ≡ length c.args.rows.now = search rules in
+    let done = c.finish.ensures.holds (tabled keys (row_key s) so_far) (subst (λ key. Holds (tabled keys key so_far) builder.used builder.rows.now) kind inv.1) in
     record {
       count = done.0 ∙ (λ i. fits (n i) (sym all i));
       after = search rules ∙ done.1 ∙ (λ i. laid (n i) (sym all i));

@@ -10,7 +10,7 @@ use Rattle.build_ids.proofs.perf_file.tabulate.Given as goal
 abbrev pub invariant-loop-at : goal.invariant-loop-at
 invariant-loop-at l =
     (so_far : List Row)
-    × Filled keys (λ kind. row_key kind.section.now) so_far l.fill
+    × Filled keys (λ kind. row_key kind.section.now) so_far l.builder
     × (rows_from 0 (records l.fn.section.order l.fn.section.bytes.now) ≡ so_far ++ rows_from l.at-iterator.at (records l.fn.section.order (drop l.at-iterator.at l.fn.section.bytes.now)))
     × (l.at-iterator.section ≡ l.fn.section)
-    × IsSameFill l.fill l.initial.fill
+    × IsSameFill l.builder l.initial.builder

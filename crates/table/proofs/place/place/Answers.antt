@@ -1,7 +1,6 @@
-use Rattle.std.proofs.Common.{◌≡◌, ◌-◌, ◌≤◌, length, get_or, Less, sym, ap, ◌∙◌, arith, rules, of_calls}
-use Rattle.std.proofs.lemmas.Fn.{always_returns_same}
+use Rattle.std.proofs.Common.{◌≡◌, ◌-◌, ◌≤◌, length, get_or, Less, sym, ap, ◌∙◌, arith, rules}
 use Rattle.table.specs.Rows.{blank}
-use Rattle.table.proofs.Halves.{is_less, place_between, searched}
+use Rattle.table.proofs.Halves.{is_less, place_between}
 use Rattle.table.proofs.place.place.Goals as goal
 
 pub returns-in-Some-clause-is : goal.returns-in-Some-clause-is
@@ -14,11 +13,3 @@ returns-in-Some-clause-is g c = λ up.
     let last : get_or rows (length rows - 1) blank ≡ c.in-Some.last.now = search rules in
     let less : m.order.cmp (key c.in-Some.last.now) (key row) ≡ Less = sym c.compare.ensures ∙ is_less c.compare.result (sym c.if-is_lt.ensures) in
     place_between m.order key rows row blank (length rows) up all (λ _. sym (ap (λ x. m.order.cmp (key x) (key row)) last ∙ less)) (λ h. absurd (omega arith))
-
-pub returns-in_default-clause-is : goal.returns-in_default-clause-is
-returns-in_default-clause-is g c = λ up.
-    let m = g.K.Kind in
-    let key = m.key c.args.kind.now in
-    let facts = c.binary_search_by.ensures in
-    searched m.order key c.args.rows.now c.args.row.now blank up c.binary_search_by.result facts.bound
-    (facts.position (λ y. m.order.cmp (key y) (key c.args.row.now)) (always_returns_same _ _ _ (λ a r f k. search (rules, of_calls))))

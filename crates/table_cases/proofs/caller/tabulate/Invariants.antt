@@ -6,4 +6,4 @@ use Rattle.table_cases.proofs.caller.tabulate.Given as goal
 abbrev pub invariant-loop-row : goal.invariant-loop-row
 invariant-loop-row g l =
     let m = g.K.Kind in
-    Filled m.order (λ kind. m.key kind.now) (take l.row-index l.given) l.fill × IsSameFill l.fill l.initial.fill
+    Filled m.order (λ kind. m.key kind.now) (take l.row-index l.given) l.builder × IsSameFill l.builder l.initial.builder

@@ -10,6 +10,6 @@ use Rattle.table_cases.proofs.reader.read.Given as goal
 abbrev pub invariant-loop-at : goal.invariant-loop-at
 invariant-loop-at l =
     (so_far : List Row)
-    × Filled numbers (λ _ row. row.number) so_far l.fill
+    × Filled numbers (λ _ row. row.number) so_far l.builder
     × (items 0 l.section ≡ joined so_far (items l.at (drop l.at l.section)))
-    × IsSameFill l.fill l.initial.fill
+    × IsSameFill l.builder l.initial.builder

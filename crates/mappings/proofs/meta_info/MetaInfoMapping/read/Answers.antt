@@ -14,7 +14,7 @@ use Rattle.mappings.proofs.meta_info.MetaInfoMapping.read.Goals as goal
 pub loop-row-init : goal.loop-row-init
 loop-row-init c =
     let s = c.args.section.bytes.now in
-    ([], c.start-fill.ensures.holds, ap (paired pair_row) (sym (pieces_here s 0 (omega arith))) ∙ joined_none (paired pair_row (pieces_from s 0)), omega arith, search rules)
+    ([], c.start-builder.ensures.holds, ap (paired pair_row) (sym (pieces_here s 0 (omega arith))) ∙ joined_none (paired pair_row (pieces_from s 0)), omega arith, search rules)
 
 pub loop-row-smaller : goal.loop-row-smaller
 loop-row-smaller c =
@@ -47,11 +47,11 @@ pub returns-clause-made : goal.returns-clause-made
 returns-clause-made c =
     let s = c.args.section.bytes.now in
     let so_far = c.loop-row.invariant.0 in
-    let fill = c.loop-row.fill in
-    let kind : key_part fill.kind.section.now ≡ key_part s = ap (λ kind. key_part kind.section.now) (c.loop-row.invariant.4.0 ∙ c.start-fill.ensures.same_kind) in
+    let builder = c.loop-row.builder in
+    let kind : key_part builder.kind.section.now ≡ key_part s = ap (λ kind. key_part kind.section.now) (c.loop-row.invariant.4.0 ∙ c.start-builder.ensures.same_kind) in
     table_made texts (key_part s) (paired pair_row (pieces 0 s)) _ so_far c.finish.result
     (c.loop-row.invariant.2
     ∙ ap (joined so_far) (pairs-none pair_row (pieces_from s c.loop-row.at) (sym c.in_ok-row.ensures ∙ ap Ok c.in_default.is))
     ∙ ap Ok (append-nil so_far))
-    (let done = c.finish.ensures.holds (tabled texts (key_part s) so_far) (subst (λ key. Holds (tabled texts key so_far) fill.used fill.rows.now) kind c.loop-row.invariant.1) in
+    (let done = c.finish.ensures.holds (tabled texts (key_part s) so_far) (subst (λ key. Holds (tabled texts key so_far) builder.used builder.rows.now) kind c.loop-row.invariant.1) in
     search rules)

@@ -11,10 +11,10 @@ use Rattle.mappings.proofs.meta_info.MetaInfoMapping.read.Given as goal
 abbrev pub invariant-loop-row : goal.invariant-loop-row
 invariant-loop-row l =
     (so_far : List Row)
-    × Filled texts (λ kind. key_part kind.section.now) so_far l.fill
+    × Filled texts (λ kind. key_part kind.section.now) so_far l.builder
     × (paired pair_row (pieces 0 l.section.bytes.now) ≡ joined so_far (paired pair_row (pieces_from l.section.bytes.now l.at)))
     × (l.at ≤ length l.section.bytes.now + 1)
-    × IsSameFill l.fill l.initial.fill
+    × IsSameFill l.builder l.initial.builder
 
 abbrev pub decreases-loop-row : goal.decreases-loop-row
 decreases-loop-row l = length l.section.bytes.now + 1 - l.at

@@ -25,19 +25,19 @@ loop-preserved c =
     c.loop.invariant.2
     ∙ ap (joined so_far) (items-next name_row o total left c.loop.rest.now _ (omega arith) is ∙ ap (λ k. given_before i.row (items_in name_row o total k i.rest.now)) less)
     ∙ given-next so_far i.row (items_in name_row o total (c.in-Some.count - (c.loop.counter + 1)) i.rest.now) in
-    let fill = c.loop.fill in
-    let start = c.start-fill.result in
+    let builder = c.loop.builder in
+    let start = c.start-builder.result in
     -- what the item gives is in the table, if it gives something
-    let given : Filled numbers (λ _. key_of) (so_far ++ option_to_list i.row) c.match-item.fill × IsSameFill c.match-item.fill start =
+    let given : Filled numbers (λ _. key_of) (so_far ++ option_to_list i.row) c.match-item.builder × IsSameFill c.match-item.builder start =
     elim c.match-item.branch [
       | in-Some-row w ↦
-          subst (λ f. Filled numbers (λ _. key_of) (so_far ++ option_to_list i.row) f × IsSameFill f start) (sym w.fill-is) (
+          subst (λ f. Filled numbers (λ _. key_of) (so_far ++ option_to_list i.row) f × IsSameFill f start) (sym w.builder-is) (
             subst (λ g. Filled numbers (λ _. key_of) (so_far ++ option_to_list g) w.add.new.self) (sym w.in-Some-row.is) (w.add.ensures.added so_far c.loop.invariant.1),
             search rules,
           )
       | in_default-row w ↦
-          subst (λ f. Filled numbers (λ _. key_of) (so_far ++ option_to_list i.row) f × IsSameFill f start) (sym w.fill-is) (
-            subst (λ xs. Filled numbers (λ _. key_of) xs fill) (sym (ap (λ g. so_far ++ option_to_list g) w.in_default-row.is ∙ append-nil so_far)) c.loop.invariant.1,
+          subst (λ f. Filled numbers (λ _. key_of) (so_far ++ option_to_list i.row) f × IsSameFill f start) (sym w.builder-is) (
+            subst (λ xs. Filled numbers (λ _. key_of) xs builder) (sym (ap (λ g. so_far ++ option_to_list g) w.in_default-row.is ∙ append-nil so_far)) c.loop.invariant.1,
             c.loop.invariant.4,
           )
     ] in

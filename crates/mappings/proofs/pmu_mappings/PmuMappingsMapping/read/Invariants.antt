@@ -10,7 +10,7 @@ use Rattle.mappings.proofs.pmu_mappings.PmuMappingsMapping.read.Given as goal
 abbrev pub invariant-loop : goal.invariant-loop
 invariant-loop l =
     (so_far : List Row)
-    × Filled numbers (λ _. key_of) so_far l.fill
+    × Filled numbers (λ _. key_of) so_far l.builder
     × (items name_row l.section.order l.section.bytes.now ≡ joined so_far (items_in name_row l.section.order (length l.section.bytes.now) (l.count - l.counter) l.rest))
     × (length l.rest ≤ length l.section.bytes.now)
-    × IsSameFill l.fill l.initial.fill
+    × IsSameFill l.builder l.initial.builder

@@ -1,37 +1,17 @@
-use Rattle.std.proofs.Common.{[], ◌∷◌, ◌++◌, set, sym, refl, arith, rules, subst}
-use Rattle.table.specs.Fills.{Holds}
+use Rattle.std.proofs.Common.{◌≡◌, [], ◌∷◌, ◌++◌, sym, ◌∙◌, subst, rules}
+use Rattle.table.specs.Fills.{Holds, used_of}
 use Rattle.table.specs.Table.{tabled}
-use Rattle.table.proofs.More.{still_over, over_same, one_too_many, put-more}
-use Rattle.table.proofs.Shifts.{put_shifted}
 use Rattle.table.proofs.fill.Fill.add.Goals as goal
 
-pub returns-in_default-clause-added : goal.returns-in_default-clause-added
-returns-in_default-clause-added g c given =
+pub returns : goal.returns
+returns g c given held =
     let m = g.K.Kind in
-    let s = c.args.self.now in
-    still_over m.order (m.key s.kind) given s.rows.now c.args.row s.used c.in_default.is
-
-pub returns-in-Ok-clause-added : goal.returns-in-Ok-clause-added
-returns-in-Ok-clause-added g c given fill =
-    let m = g.K.Kind in
-    let s = c.args.self.now in
-    let before = subst (λ u. Holds (tabled m.order (m.key s.kind) given) u s.rows.now) c.in-Some.is fill in
-    subst (λ u. Holds (tabled m.order (m.key s.kind) (given ++ c.args.row ∷ [])) u (set s.rows.now c.in-Ok.i c.args.row)) (sym c.in-Some.is)
-    (over_same m.order (m.key s.kind) given s.rows.now c.args.row c.in-Some.used before c.in-Ok.i c.in-Ok.ensures.is _ refl)
-
-pub returns-in-Err-clause-added : goal.returns-in-Err-clause-added
-returns-in-Err-clause-added g c given fill =
-    let m = g.K.Kind in
-    let s = c.args.self.now in
-    let before = subst (λ u. Holds (tabled m.order (m.key s.kind) given) u s.rows.now) c.in-Some.is fill in
-    one_too_many m.order (m.key s.kind) given s.rows.now c.args.row c.in-Some.used before _ c.in-Err.ensures.is
-    (omega arith) _ (search rules) (search rules)
-
-pub returns-in-Err-2-clause-added : goal.returns-in-Err-2-clause-added
-returns-in-Err-2-clause-added g c given fill =
-    let m = g.K.Kind in
-    let s = c.args.self.now in
-    let before = subst (λ u. Holds (tabled m.order (m.key s.kind) given) u s.rows.now) c.in-Some.is fill in
-    put-more m.order (m.key s.kind) given s.rows.now c.args.row c.in-Some.used before c.in-Err.field-0 c.in-Err.ensures.is
-    (omega arith) _ (search rules)
-    (put_shifted s.rows.now c.in-Some.used c.in-Err.field-0 c.args.row c.in-Err.ensures.within (omega arith) c.put_first.new.rows c.put_first.ensures)
+    let after = given ++ c.args.row ∷ [] in
+    let builder = c.add.new.self in
+    let before = subst (λ u. Holds (tabled m.order (m.key c.args.kind.now) given) u c.args.rows.now) (sym c.finish.ensures.is) held in
+    let added = c.add.ensures.added given (c.resume-builder.ensures.holds given before) in
+    let kind : builder.kind ≡ c.args.kind = c.add.ensures.same.0 ∙ c.resume-builder.ensures.same_kind in
+    let used : builder.used ≡ used_of c.map_or.result = search rules in
+    subst (λ rows. Holds (tabled m.order (m.key c.args.kind.now) after) (used_of c.map_or.result) rows) (search rules) (
+    subst (λ u. Holds (tabled m.order (m.key c.args.kind.now) after) u builder.rows.now) used (
+    subst (λ k. Holds (tabled m.order (m.key k.now) after) builder.used builder.rows.now) kind added))
